@@ -1,0 +1,48 @@
+-- The laws of an outcome: the number and the value fix it, and its number is 0 exactly where a value is given.
+-- Assumes nothing.
+use Prim.Native.Nat.{ℕ, _<_}
+use mathlib.Core.Path.{_≡_, refl, ap}
+use mathlib.Core.Bool.{Bool, true, false}
+use native.Mathlib.Omega.{arith}
+use Rattle.paper.specs.Outcome.{Outcome, given, refused, number, value, unless, andThen, Given, Numbered, both}
+
+pub given-injective : {A : Type 0} {a b : A} → given a ≡ given b → a ≡ b
+given-injective e = cc
+
+pub refused-injective : {A : Type 0} {m n : ℕ} → _≡_ {A = Outcome A} (refused m) (refused n) → m ≡ n
+refused-injective e = cc
+
+pub given-not-refused : {A : Type 0} {a : A} {n : ℕ} → given a ≡ refused n → ⊥
+given-not-refused e = let z : _≡_ {A = ℕ} 0 1 = cc in omega arith
+
+pub zero-where-given : {A : Type 0} (o : Outcome A) → Given o → number o ≡ 0
+zero-where-given (given a) g = refl
+zero-where-given (refused n) g = absurd g
+
+pub given-where-zero : {A : Type 0} (o : Outcome A) → Numbered o → number o ≡ 0 → Given o
+given-where-zero (given a) h e = h
+given-where-zero (refused n) h e = absurd (omega arith)
+
+-- two outcomes with one number and one value are one outcome
+pub fixed-by-parts : {A : Type 0} (zero : A) (o p : Outcome A) → Numbered o → Numbered p → number o ≡ number p → value zero o ≡ value zero p → o ≡ p
+fixed-by-parts zero (given a) (given b) h k e v = ap given v
+fixed-by-parts zero (given a) (refused n) h k e v = absurd (omega arith)
+fixed-by-parts zero (refused m) (given b) h k e v = absurd (omega arith)
+fixed-by-parts zero (refused m) (refused n) h k e v = ap refused e
+
+pub unless-numbered : {A : Type 0} (b : Bool) (n : ℕ) (o : Outcome A) → 0 < n → Numbered o → Numbered (unless b n o)
+unless-numbered true n o h k = k
+unless-numbered false n o h k = h
+
+pub then-numbered : {A B : Type 0} (o : Outcome A) (f : A → Outcome B) → Numbered o → ((a : A) → Numbered (f a)) → Numbered (andThen o f)
+then-numbered (given a) f h k = k a
+then-numbered (refused n) f h k = h
+
+-- a value that comes out of a check says that the check held
+pub unless-given : {A : Type 0} (b : Bool) (n : ℕ) (o : Outcome A) (a : A) → unless b n o ≡ given a → (b ≡ true) × (o ≡ given a)
+unless-given true n o a e = (refl, e)
+unless-given false n o a e = let z : _≡_ {A = ℕ} 0 1 = cc in absurd (omega arith)
+
+pub both-true : (a b : Bool) → both a b ≡ true → (a ≡ true) × (b ≡ true)
+both-true true b e = (refl, e)
+both-true false b e = let z : _≡_ {A = Bool} false true = e in (z, cc)

@@ -1,0 +1,21 @@
+-- `calendar::is_before` meets its contract: each `return` is one of the three comparisons.
+-- Assumes nothing.
+use borrow.Author.Tests.{eq-eqb, ne-eqb}
+use Rattle.calendar.specs.Dates.{isBefore}
+use Rattle.calendar.proofs.is_before.Statement.{statement}
+use Rattle.calendar.proofs.is_before.Tie as tie
+
+returns : tie.Need-returns
+unfolding isBefore
+returns c = simp (ne-eqb _ _ (c .before .before .if1 .taken))
+
+returns-2 : tie.Need-returns-2
+unfolding isBefore
+returns-2 c = simp (eq-eqb _ _ (c .before .before .before .before .before .if1 .left), ne-eqb _ _ (c .before .before .if2 .taken))
+
+returns-3 : tie.Need-returns-3
+unfolding isBefore
+returns-3 c = simp (eq-eqb _ _ (c .before .before .before .before .before .if1 .left), eq-eqb _ _ (c .before .before .if2 .left))
+
+pub is-before-spec : {M : Type 1} → statement M
+is-before-spec = tie.close (tie.spec returns returns-2 returns-3)

@@ -7,13 +7,13 @@ use native.Mathlib.Omega.{arith}
 use native.Mathlib.Numerals.{add-one}
 use borrow.Author.Tests.{le-leb, leb-true}
 use Rattle.paper.proofs.Outcomes.{both-true}
-use Rattle.calendar.specs.Gregorian.{monthLength, yearLength, beforeYear, beforeMonth, unitOf}
+use Rattle.gregorian.specs.Gregorian.{monthLength, yearLength, beforeYear, beforeMonth, unitOf}
 use Rattle.calendar.specs.Dates.{isDate, isDay, dayNumber, yearOf, inYear, theDate}
 use Rattle.calendar.specs.declared.Day.{Day}
 use Rattle.calendar.specs.declared.Date.{Date}
-use Rattle.calendar.proofs.Months.{is-month, year-of-months, year-most, before-first, begins-by, begins-from}
-use Rattle.calendar.proofs.Counting.{before-suc, before-mono, unit-at, unit-in, Falls}
-use Rattle.calendar.proofs.Years.{last-day, before-one, cycle}
+use Rattle.gregorian.proofs.Months.{is-month, year-of-months, year-most, before-first, begins-by, begins-from}
+use Rattle.gregorian.proofs.Counting.{before-suc, before-mono, unit-at, unit-in, Falls}
+use Rattle.gregorian.proofs.Years.{last-day, before-one, cycle}
 
 pub record IsDate (t : Date) : Type 0 where
   pub year-from : 1 ≤ t .year

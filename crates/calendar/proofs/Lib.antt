@@ -1,6 +1,5 @@
-pub mod Table
-pub mod Counting
-pub mod Months
-pub mod Years
 pub mod Dates
-pub mod Landing
+pub mod Order
+pub mod Inverse
+pub mod Examples
+pub mod OneOutcome

@@ -4,7 +4,7 @@ use Prim.Native.Nat.{ℕ, _+_, _-_, _*_, _/_, _%_, min}
 use mathlib.Core.Bool.{Bool, true, false}
 use lib.Dec.{eqb, leb, ltb}
 use Rattle.paper.specs.Outcome.{pick, both}
-use Rattle.calendar.specs.Gregorian.{monthLength, yearLength, beforeYear, beforeMonth, unitOf}
+use Rattle.gregorian.specs.Gregorian.{monthLength, yearLength, beforeYear, beforeMonth, unitOf}
 use Rattle.calendar.specs.declared.Day.{Day}
 use Rattle.calendar.specs.declared.Date.{Date}
 

@@ -1,7 +1,7 @@
 -- The laws of an outcome: the number and the value fix it, and its number is 0 exactly where a value is given.
 -- Assumes nothing.
 use Prim.Native.Nat.{ℕ, _<_}
-use mathlib.Core.Path.{_≡_, refl, ap}
+use mathlib.Core.Path.{_≡_, refl, sym, _∙_, ap}
 use mathlib.Core.Bool.{Bool, true, false}
 use native.Mathlib.Omega.{arith}
 use Rattle.paper.specs.Outcome.{Outcome, given, refused, number, value, unless, andThen, Given, Numbered, both}
@@ -14,6 +14,10 @@ refused-injective e = cc
 
 pub given-not-refused : {A : Type 0} {a : A} {n : ℕ} → given a ≡ refused n → ⊥
 given-not-refused e = let z : _≡_ {A = ℕ} 0 1 = cc in omega arith
+
+-- a promise that names its value has one answer
+pub one-value : {A : Type 0} {x : A} (r s : A) → r ≡ x → s ≡ x → r ≡ s
+one-value r s p q = p ∙ sym q
 
 pub zero-where-given : {A : Type 0} (o : Outcome A) → Given o → number o ≡ 0
 zero-where-given (given a) g = refl
@@ -42,6 +46,11 @@ then-numbered (refused n) f h k = h
 pub unless-given : {A : Type 0} (b : Bool) (n : ℕ) (o : Outcome A) (a : A) → unless b n o ≡ given a → (b ≡ true) × (o ≡ given a)
 unless-given true n o a e = (refl, e)
 unless-given false n o a e = let z : _≡_ {A = ℕ} 0 1 = cc in absurd (omega arith)
+
+-- and one that comes out of two steps came out of the first
+pub then-given : {A B : Type 0} (o : Outcome A) (f : A → Outcome B) (b : B) → andThen o f ≡ given b → (a : A) × (o ≡ given a) × (f a ≡ given b)
+then-given (given a) f b e = (a, refl, e)
+then-given (refused n) f b e = absurd (given-not-refused (sym e))
 
 pub both-true : (a b : Bool) → both a b ≡ true → (a ≡ true) × (b ≡ true)
 both-true true b e = (refl, e)

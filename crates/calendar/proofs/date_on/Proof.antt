@@ -5,7 +5,7 @@ use mathlib.Core.Path.{_∙_, ap, ap₂}
 use native.Mathlib.Omega.{arith}
 use borrow.Author.Needs.{needs}
 use Rattle.calendar.specs.Dates.{inYear, theDate}
-use Rattle.calendar.specs.Gregorian.{beforeYear}
+use Rattle.gregorian.specs.Gregorian.{beforeYear}
 use Rattle.calendar.proofs.Dates.{day-in-year}
 use Rattle.calendar.proofs.date_on.Statement.{statement}
 use Rattle.calendar.proofs.date_on.Tie as tie

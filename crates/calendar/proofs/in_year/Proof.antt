@@ -2,7 +2,7 @@
 -- Assumes nothing.
 use native.Mathlib.Omega.{arith}
 use borrow.Author.Needs.{needs}
-use Rattle.calendar.proofs.Months.{year-most}
+use Rattle.gregorian.proofs.Months.{year-most}
 use Rattle.calendar.proofs.Dates.{guess-started, in-guessed, in-next}
 use Rattle.calendar.proofs.in_year.Statement.{statement}
 use Rattle.calendar.proofs.in_year.Tie as tie

@@ -3,9 +3,9 @@
 use Prim.Native.Nat.{suc, _-_, _≤_, _<_}
 use mathlib.Core.Path.{_≡_}
 use native.Mathlib.Omega.{arith}
-use Rattle.calendar.specs.Gregorian.{beforeYear}
+use Rattle.gregorian.specs.Gregorian.{beforeYear}
 use Rattle.calendar.proofs.Dates.{year-in-cycle}
-use Rattle.calendar.proofs.Years.{before-one, whole}
+use Rattle.gregorian.proofs.Years.{before-one, whole}
 use Rattle.calendar.proofs.year_of.Statement.{statement}
 use Rattle.calendar.proofs.year_of.Tie as tie
 

@@ -1,0 +1,82 @@
+-- No second answer satisfies an entry point's promise; and a refusal's number is never 0.
+-- Assumes nothing.
+use Prim.Native.Nat.{_+_}
+use mathlib.Core.Path.{_≡_, sym, _∙_, ap}
+use native.Mathlib.Omega.{arith}
+use lib.Dec.{leb}
+use Rattle.paper.specs.Outcome.{Numbered, both}
+use Rattle.paper.proofs.Outcomes.{given-injective, refused-injective, given-not-refused, unless-numbered}
+use Rattle.calendar.specs.Dates.{isDate, isDay}
+use Rattle.calendar.specs.Answers.{dayOutcome, daysOutcome, dateOutcome, weekdayOutcome, dayOf, dateOf, weekdayOf, daysBetween, dayAfter, DayOfPromise, DateOfPromise, WeekdayPromise, DaysBetweenPromise, DayAfterPromise}
+use Rattle.calendar.specs.declared.Day.{Day}
+use Rattle.calendar.specs.declared.Days.{Days}
+use Rattle.calendar.specs.declared.Date.{Date}
+use Rattle.calendar.specs.declared.DayAnswer.{DayAnswer}
+use Rattle.calendar.specs.declared.DayAnswer.the-variants as day-answer
+use Rattle.calendar.specs.declared.DaysAnswer.{DaysAnswer}
+use Rattle.calendar.specs.declared.DaysAnswer.the-variants as days-answer
+use Rattle.calendar.specs.declared.DateAnswer.{DateAnswer}
+use Rattle.calendar.specs.declared.DateAnswer.the-variants as date-answer
+use Rattle.calendar.specs.declared.WeekdayAnswer.{WeekdayAnswer}
+use Rattle.calendar.specs.declared.WeekdayAnswer.the-variants as weekday-answer
+
+pub same-day-answer : (r s : DayAnswer) → dayOutcome r ≡ dayOutcome s → r ≡ s
+same-day-answer (day-answer.Day a) (day-answer.Day b) e = ap day-answer.Day (given-injective e)
+same-day-answer (day-answer.Day a) (day-answer.Refused n) e = absurd (given-not-refused e)
+same-day-answer (day-answer.Refused m) (day-answer.Day b) e = absurd (given-not-refused (sym e))
+same-day-answer (day-answer.Refused m) (day-answer.Refused n) e = ap day-answer.Refused (refused-injective e)
+
+pub same-days-answer : (r s : DaysAnswer) → daysOutcome r ≡ daysOutcome s → r ≡ s
+same-days-answer (days-answer.Days a) (days-answer.Days b) e = ap days-answer.Days (given-injective e)
+same-days-answer (days-answer.Days a) (days-answer.Refused n) e = absurd (given-not-refused e)
+same-days-answer (days-answer.Refused m) (days-answer.Days b) e = absurd (given-not-refused (sym e))
+same-days-answer (days-answer.Refused m) (days-answer.Refused n) e = ap days-answer.Refused (refused-injective e)
+
+pub same-date-answer : (r s : DateAnswer) → dateOutcome r ≡ dateOutcome s → r ≡ s
+same-date-answer (date-answer.Date a) (date-answer.Date b) e = ap date-answer.Date (given-injective e)
+same-date-answer (date-answer.Date a) (date-answer.Refused n) e = absurd (given-not-refused e)
+same-date-answer (date-answer.Refused m) (date-answer.Date b) e = absurd (given-not-refused (sym e))
+same-date-answer (date-answer.Refused m) (date-answer.Refused n) e = ap date-answer.Refused (refused-injective e)
+
+pub same-weekday-answer : (r s : WeekdayAnswer) → weekdayOutcome r ≡ weekdayOutcome s → r ≡ s
+same-weekday-answer (weekday-answer.Weekday a) (weekday-answer.Weekday b) e = ap weekday-answer.Weekday (given-injective e)
+same-weekday-answer (weekday-answer.Weekday a) (weekday-answer.Refused n) e = absurd (given-not-refused e)
+same-weekday-answer (weekday-answer.Refused m) (weekday-answer.Weekday b) e = absurd (given-not-refused (sym e))
+same-weekday-answer (weekday-answer.Refused m) (weekday-answer.Refused n) e = ap weekday-answer.Refused (refused-injective e)
+
+-- one answer to each question
+pub one-day-of : (t : Date) (r s : DayAnswer) → DayOfPromise t r → DayOfPromise t s → r ≡ s
+one-day-of t r s p q = same-day-answer r s (p ∙ sym q)
+
+pub one-date-of : (d : Day) (r s : DateAnswer) → DateOfPromise d r → DateOfPromise d s → r ≡ s
+one-date-of d r s p q = same-date-answer r s (p ∙ sym q)
+
+pub one-weekday : (d : Day) (r s : WeekdayAnswer) → WeekdayPromise d r → WeekdayPromise d s → r ≡ s
+one-weekday d r s p q = same-weekday-answer r s (p ∙ sym q)
+
+pub one-days-between : (a b : Day) (r s : DaysAnswer) → DaysBetweenPromise a b r → DaysBetweenPromise a b s → r ≡ s
+one-days-between a b r s p q = same-days-answer r s (p ∙ sym q)
+
+pub one-day-after : (d : Day) (n : Days) (r s : DayAnswer) → DayAfterPromise d n r → DayAfterPromise d n s → r ≡ s
+one-day-after d n r s p q = same-day-answer r s (p ∙ sym q)
+
+-- every refusal has its number
+pub day-of-numbered : (t : Date) → Numbered (dayOf t)
+unfolding dayOf
+day-of-numbered t = unless-numbered (isDate t) 1 _ (omega arith) (omega arith)
+
+pub date-of-numbered : (d : Day) → Numbered (dateOf d)
+unfolding dateOf
+date-of-numbered d = unless-numbered (isDay d) 1 _ (omega arith) (omega arith)
+
+pub weekday-numbered : (d : Day) → Numbered (weekdayOf d)
+unfolding weekdayOf
+weekday-numbered d = unless-numbered (isDay d) 1 _ (omega arith) (omega arith)
+
+pub days-between-numbered : (a b : Day) → Numbered (daysBetween a b)
+unfolding daysBetween
+days-between-numbered a b = unless-numbered (both (isDay a) (isDay b)) 1 _ (omega arith) (unless-numbered (leb (a .0) (b .0)) 19 _ (omega arith) (omega arith))
+
+pub day-after-numbered : (d : Day) (n : Days) → Numbered (dayAfter d n)
+unfolding dayAfter
+day-after-numbered d n = unless-numbered (both (isDay d) (leb (d .0 + n .0) 3652059)) 1 _ (omega arith) (omega arith)

@@ -1,0 +1,69 @@
+-- The desk card's steps, and the ends of the signed numbers, as theorems about the definitions.
+-- Assumes nothing.
+use Prim.Native.Nat.{ℕ}
+use mathlib.Core.Path.{_≡_, refl}
+use lib.IntN.{pos, negsuc}
+use Rattle.paper.specs.Outcome.{given, refused}
+use Rattle.gregorian.specs.Gregorian.{leap, lengthIn, monthLength, yearLength, before, unitOf}
+use Rattle.calendar.specs.Dates.{isDate, isDay, dayNumber, yearOf, inYear, theDate, monthDate}
+use Rattle.calendar.specs.Answers.{dateOf}
+use Rattle.calendar.specs.declared.Date.{Date}
+use Rattle.date_step.specs.Steps.{landing, monthsLater, addMonths, existingDate, yearsLater, addYears, daysLater, addDays}
+
+abbrev on : ℕ → ℕ → ℕ → Date
+on y m d = record { year = y; month = m; day = d }
+
+-- each of the desk card's by its letter; and -15M
+pub record Card : Type 0 where
+  pub a : addMonths (on 2024 2 29) (pos 12) ≡ given (on 2025 2 28)
+  pub b : addYears (on 2024 2 29) (pos 1) ≡ refused 1
+  pub c : addMonths (on 2021 1 31) (pos 1) ≡ given (on 2021 2 28)
+  pub d : addMonths (on 2021 2 28) (negsuc 0) ≡ given (on 2021 1 28)
+  pub f : addMonths (on 9999 12 1) (pos 1) ≡ refused 1
+  pub fifteen-back : addMonths (on 2021 3 15) (negsuc 14) ≡ given (on 2019 12 15)
+
+pub card : Card
+unfolding leap lengthIn monthLength isDate monthDate landing monthsLater addMonths existingDate yearsLater addYears
+card = record { a = refl; b = refl; c = refl; d = refl; f = refl; fifteen-back = refl }
+
+-- the least and the greatest 32-bit number, in every step
+pub record Extremes : Type 0 where
+  pub least-months : addMonths (on 9999 12 31) (negsuc 2147483647) ≡ refused 1
+  pub most-months : addMonths (on 1 1 1) (pos 2147483647) ≡ refused 1
+  pub least-years : addYears (on 9999 12 31) (negsuc 2147483647) ≡ refused 1
+  pub most-years : addYears (on 1 1 1) (pos 2147483647) ≡ refused 1
+  pub least-days : addDays (on 9999 12 31) (negsuc 2147483647) ≡ refused 1
+  pub most-days : addDays (on 1 1 1) (pos 2147483647) ≡ refused 1
+  pub whole-calendar : addDays (on 1 1 1) (pos 3652058) ≡ given (on 9999 12 31)
+
+pub extremes : Extremes
+unfolding leap lengthIn monthLength yearLength before unitOf isDate isDay dayNumber yearOf inYear theDate monthDate dateOf landing monthsLater addMonths existingDate yearsLater addYears daysLater addDays
+extremes =
+    record {
+      least-months = refl;
+      most-months = refl;
+      least-years = refl;
+      most-years = refl;
+      least-days = refl;
+      most-days = refl;
+      whole-calendar = refl;
+    }
+
+-- one step past either end
+pub record Past : Type 0 where
+  pub a-day : addDays (on 9999 12 31) (pos 1) ≡ refused 1
+  pub a-month : addMonths (on 9999 12 31) (pos 1) ≡ refused 1
+  pub a-year : addYears (on 9999 12 31) (pos 1) ≡ refused 1
+
+pub past : Past
+unfolding leap lengthIn monthLength yearLength before isDate dayNumber monthDate landing monthsLater addMonths existingDate yearsLater addYears daysLater addDays
+past = record { a-day = refl; a-month = refl; a-year = refl }
+
+pub record Before : Type 0 where
+  pub a-day : addDays (on 1 1 1) (negsuc 0) ≡ refused 1
+  pub a-month : addMonths (on 1 1 1) (negsuc 0) ≡ refused 1
+  pub a-year : addYears (on 1 1 1) (negsuc 0) ≡ refused 1
+
+pub before-all : Before
+unfolding leap lengthIn monthLength yearLength before unitOf isDate isDay dayNumber yearOf inYear theDate dateOf monthDate landing monthsLater addMonths existingDate yearsLater addYears daysLater addDays
+before-all = record { a-day = refl; a-month = refl; a-year = refl }

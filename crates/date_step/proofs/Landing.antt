@@ -1,0 +1,104 @@
+-- Where a signed move leads: what the machine computes at 64 bits is the sum of whole numbers.
+-- Assumes nothing.
+use Prim.Native.Nat.{ℕ, suc, _+_, _-_, _^_, _≤_, _<_}
+use mathlib.Core.Path.{_≡_, refl, sym, _∙_, ap, ap₂, subst}
+use mathlib.Core.Bool.{Bool, true, false, cond}
+use native.Mathlib.Omega.{arith}
+use lib.Dec.{T, leb, ltb}
+use lib.IntN.{ℤ, pos, negsuc, _+ℤ_, natAbs}
+use lib.Signed.{mag, ltZ, nonNeg}
+use mir.Syntax.{w32, w64}
+use mir.Val.{SFits, toZ, ofZ}
+use mir.Facts.{toZ-ofZ, toZ-pos, sfits-widen}
+use borrow.Author.Tests.{ltb-true, ltb-false, le-leb, lt-leb, leb-true, lt-ltb, le-ltb}
+use Rattle.paper.specs.Outcome.{given, refused}
+use Rattle.paper.proofs.Outcomes.{given-injective, given-not-refused, unless-given}
+use Rattle.date_step.specs.Steps.{landing}
+
+-- a number and a signed one added: by the sign, and where it is negative by which is the greater
+pub sum-below : (a k : ℕ) → a ≤ k → pos a +ℤ negsuc k ≡ negsuc (k - a)
+sum-below a k h = rw (lt-ltb a (suc k) (omega arith)) (ap negsuc (omega arith))
+
+pub sum-above : (a k : ℕ) → k < a → pos a +ℤ negsuc k ≡ pos (a - suc k)
+sum-above a k h = rw (le-ltb a (suc k) h)
+
+module _ (last : ℕ) where
+  -- below 0 there is no place
+  pub below : (z : ℤ) → ltZ z (pos 0) ≡ true → refused 1 ≡ landing last z
+  unfolding landing
+  below (pos k) e = absurd (omega (arith, ltb-true k 0 e))
+  below (negsuc k) e = refl
+
+  -- nor past the last
+  pub beyond : (z : ℤ) → T (nonNeg z) → last < natAbs z → refused 1 ≡ landing last z
+  unfolding landing
+  beyond (pos k) e h = rw (lt-leb k last h)
+  beyond (negsuc k) e h = absurd e
+
+  pub lands : (z : ℤ) → T (nonNeg z) → natAbs z ≤ last → given (natAbs z) ≡ landing last z
+  unfolding landing
+  lands (pos k) e h = rw (le-leb k last h)
+  lands (negsuc k) e h = absurd e
+
+  -- what is reached lies up to the last
+  pub landed-to : (z : ℤ) (i : ℕ) → given i ≡ landing last z → i ≤ last
+  unfolding landing
+  landed-to (pos k) i e =
+      let u = unless-given (leb k last) 1 (given k) i (sym e) in
+      let l : k ≤ last = leb-true k last (u .0) in
+      let q : k ≡ i = given-injective (u .1) in
+      omega arith
+  landed-to (negsuc k) i e = absurd (given-not-refused e)
+
+  -- a move of more than the whole calendar leads out of it
+  module _ (a most : ℕ) (ha : a ≤ most) (hl : last ≤ most) where
+    pub far-back : (n : ℤ) → ltZ n (negsuc (most - 1)) ≡ true → refused 1 ≡ landing last (pos a +ℤ n)
+    unfolding landing
+    far-back (pos k) e = let x : _≡_ {A = ℕ} 0 1 = cc e in absurd (omega arith)
+    far-back (negsuc k) e = let l : most - 1 < k = ltb-true (most - 1) k e in rw (sum-below a k (omega arith))
+
+    pub far-on : (n : ℤ) → ltZ (pos most) n ≡ true → refused 1 ≡ landing last (pos a +ℤ n)
+    unfolding landing
+    far-on (pos k) e = let l : most < k = ltb-true most k e in rw (lt-leb (a + k) last (omega arith))
+    far-on (negsuc k) e = let x : _≡_ {A = ℕ} 0 1 = cc e in absurd (omega arith)
+
+-- any other move's sum fits 64 bits
+pub near-fits : (a most : ℕ) (n : ℤ) → a ≤ most → most < 2 ^ 32 → ltZ n (negsuc (most - 1)) ≡ false → ltZ (pos most) n ≡ false → SFits w64 (pos a +ℤ n)
+near-fits a most (pos k) h m p q = let l : k ≤ most = ltb-false most k q in record { sfits = omega arith }
+near-fits a most (negsuc k) h m p q =
+    let l : k ≤ most - 1 = ltb-false (most - 1) k p in
+    record { sfits = either (ltb a (suc k)) (suc k - suc a) (a - suc k) (2 ^ 63) (omega arith) (omega arith) }
+  where
+    either : (b : Bool) (x y z : ℕ) → x < z → y < z → mag (cond b (negsuc x) (pos y)) < z
+    either true x y z h l = h
+    either false x y z h l = l
+
+pub not-below : (z : ℤ) → ltZ z (pos 0) ≡ false → T (nonNeg z)
+not-below (pos k) e = tt
+not-below (negsuc k) e = let x : _≡_ {A = ℕ} 0 1 = cc e in absurd (omega arith)
+
+pub small : (a most : ℕ) (n : ℤ) → a ≤ most → ltZ (pos most) n ≡ false → T (nonNeg (pos a +ℤ n)) → natAbs (pos a +ℤ n) ≤ most + most
+small a most (pos k) h q t = let l : k ≤ most = ltb-false most k q in omega arith
+small a most (negsuc k) h q t = either (ltb a (suc k)) (λ e. ltb-true a (suc k) e) t refl
+  where
+    either : (b : Bool) → (b ≡ true → a < suc k) → T (nonNeg (cond b (negsuc (suc k - suc a)) (pos (a - suc k)))) → ltb a (suc k) ≡ b → natAbs (cond b (negsuc (suc k - suc a)) (pos (a - suc k))) ≤ most + most
+    either true f t e = absurd t
+    either false f t e = omega arith
+
+-- a 32-bit number, widened
+pub widened : (n : ℤ) → SFits w32 n → toZ w64 (ofZ w64 (toZ w32 (ofZ w32 n))) ≡ n
+widened n f = ap (λ (z : ℤ). toZ w64 (ofZ w64 z)) (toZ-ofZ f) ∙ toZ-ofZ (sfits-widen tt f)
+
+pub wide-fits : (n : ℤ) → SFits w32 n → SFits w64 (toZ w32 (ofZ w32 n))
+wide-fits n f = subst (SFits w64) (sym (toZ-ofZ f)) (sfits-widen tt f)
+
+-- the sum as the machine computes it
+module _ (a : ℕ) (n : ℤ) (small : a < 2 ^ 63) (fits : SFits w64 n) where
+  summed-is : toZ w64 a +ℤ toZ w64 (ofZ w64 n) ≡ pos a +ℤ n
+  summed-is = ap₂ _+ℤ_ (toZ-pos w64 small) (toZ-ofZ fits)
+
+  pub summed-fits : SFits w64 (pos a +ℤ n) → SFits w64 (toZ w64 a +ℤ toZ w64 (ofZ w64 n))
+  summed-fits f = subst (SFits w64) (sym summed-is) f
+
+  pub summed-read : SFits w64 (pos a +ℤ n) → toZ w64 (ofZ w64 (toZ w64 a +ℤ toZ w64 (ofZ w64 n))) ≡ pos a +ℤ n
+  summed-read f = toZ-ofZ (summed-fits f) ∙ summed-is

@@ -1,0 +1,4 @@
+pub mod Landing
+pub mod Steps
+pub mod Examples
+pub mod OneOutcome

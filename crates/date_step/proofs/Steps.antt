@@ -1,0 +1,112 @@
+-- What a step of months, years or days leads to.
+-- Assumes nothing.
+use Prim.Native.Nat.{ℕ, _+_, _≤_, _<_, min}
+use mathlib.Core.Path.{_≡_, sym, _∙_, ap, subst}
+use mathlib.Core.Bool.{true}
+use native.Mathlib.Omega.{arith}
+use lib.Dec.{leb}
+use lib.IntN.{ℤ, pos, negsuc, _+ℤ_}
+use borrow.Author.Tests.{le-leb, leb-true}
+use Rattle.paper.specs.Outcome.{given}
+use Rattle.paper.proofs.Outcomes.{given-injective, given-not-refused, unless-given, then-given}
+use Rattle.gregorian.specs.Gregorian.{monthLength}
+use Rattle.calendar.specs.Dates.{isDate, isDay, dayNumber, theDate, monthIndex, monthDate}
+use Rattle.calendar.specs.Answers.{dateOf}
+use Rattle.date_step.specs.Steps.{landing, monthsLater, addMonths, existingDate, yearsLater, addYears, daysLater, addDays}
+use Rattle.calendar.specs.declared.Day.{Day}
+use Rattle.calendar.specs.declared.Date.{Date}
+use Rattle.calendar.proofs.Dates.{IsDate, date-yes, day-yes, the-date-is, number-found}
+use Rattle.calendar.proofs.Order.{InMonth, month-date, month-order}
+
+-- what was reached is the number moved to
+pub landed : (last : ℕ) (z : ℤ) (i : ℕ) → landing last z ≡ given i → (z ≡ pos i) × (i ≤ last)
+unfolding landing
+landed last (pos k) i e =
+    let u = unless-given (leb k last) 1 (given k) i e in
+    let q : k ≡ i = given-injective (u .1) in
+    let l : k ≤ last = leb-true k last (u .0) in
+    (ap pos q, omega arith)
+landed last (negsuc k) i e = absurd (given-not-refused (sym e))
+
+pub lands-at : (last i : ℕ) → i ≤ last → landing last (pos i) ≡ given i
+unfolding landing
+lands-at last i h = rw (le-leb i last h)
+
+-- n months on: the month's number moves by n, and the day is cut to the month's last
+pub record MonthsOn (t : Date) (n : ℤ) (u : Date) : Type 0 where
+  pub from : IsDate t
+  pub dated : IsDate u
+  pub index : pos (monthIndex t) +ℤ n ≡ pos (monthIndex u)
+  pub cut : u .day ≡ min (t .day) (monthLength (u .year) (u .month))
+
+pub months-on : (t : Date) (n : ℤ) (u : Date) → addMonths t n ≡ given u → MonthsOn t n u
+unfolding addMonths monthsLater
+months-on t n u e =
+    let g = unless-given (isDate t) 1 _ u e in
+    let h = date-yes t (g .0) in
+    let m = then-given (landing 119987 (pos (monthIndex t) +ℤ n)) (λ i. given (monthDate i (t .day))) u (g .1) in
+    let l = landed 119987 (pos (monthIndex t) +ℤ n) (m .0) (m .1) in
+    let i : InMonth (m .0) (t .day) u = subst (InMonth (m .0) (t .day)) (given-injective (m .2)) (month-date (m .0) (t .day) (h .day-from) (l .1)) in
+    record { from = h; dated = i .dated; index = l .0 ∙ ap pos (sym (i .index)); cut = i .cut }
+
+-- and every month of the calendar is reached
+pub months-reach : (t : Date) (n : ℤ) (i : ℕ) → isDate t ≡ true → pos (monthIndex t) +ℤ n ≡ pos i → i ≤ 119987 → addMonths t n ≡ given (monthDate i (t .day))
+unfolding addMonths monthsLater
+months-reach t n i d e h = rw (d, e, lands-at 119987 i h)
+
+-- a positive number of months leads to a later day
+pub months-later-day : (t : Date) (n : ℕ) (u : Date) → 1 ≤ n → addMonths t (pos n) ≡ given u → dayNumber t < dayNumber u
+months-later-day t n u h e =
+    let m = months-on t (pos n) u e in
+    let i : monthIndex t + n ≡ monthIndex u = pos-injective (m .index) in
+    month-order t u (m .from) (m .dated) (omega arith)
+  where
+    pos-injective : {a b : ℕ} → pos a ≡ pos b → a ≡ b
+    pos-injective e = cc
+
+-- n years on: the same month and day
+pub record YearsOn (t : Date) (n : ℤ) (u : Date) : Type 0 where
+  pub from : IsDate t
+  pub dated : IsDate u
+  pub year : pos (t .year) +ℤ n ≡ pos (u .year)
+  pub month : u .month ≡ t .month
+  pub day : u .day ≡ t .day
+
+pub years-on : (t : Date) (n : ℤ) (u : Date) → addYears t n ≡ given u → YearsOn t n u
+unfolding addYears yearsLater existingDate
+years-on t n u e =
+    let g = unless-given (isDate t) 1 _ u e in
+    let m = then-given (landing 9999 (pos (t .year) +ℤ n)) (λ y. existingDate (record { year = y; month = t .month; day = t .day })) u (g .1) in
+    let l = landed 9999 (pos (t .year) +ℤ n) (m .0) (m .1) in
+    let v : Date = record { year = m .0; month = t .month; day = t .day } in
+    let x = unless-given (isDate v) 1 (given v) u (m .2) in
+    let q : v ≡ u = given-injective (x .1) in
+    record {
+      from = date-yes t (g .0);
+      dated = subst IsDate q (date-yes v (x .0));
+      year = l .0 ∙ ap (λ (w : Date). pos (w .year)) q;
+      month = ap (λ (w : Date). w .month) (sym q);
+      day = ap (λ (w : Date). w .day) (sym q);
+    }
+
+-- n days on: the serial day moves by n
+pub record DaysOn (t : Date) (n : ℤ) (u : Date) : Type 0 where
+  pub from : IsDate t
+  pub dated : IsDate u
+  pub number : pos (dayNumber t) +ℤ n ≡ pos (dayNumber u)
+
+pub days-on : (t : Date) (n : ℤ) (u : Date) → addDays t n ≡ given u → DaysOn t n u
+unfolding addDays daysLater dateOf
+days-on t n u e =
+    let g = unless-given (isDate t) 1 _ u e in
+    let m = then-given (landing 3652059 (pos (dayNumber t) +ℤ n)) (λ k. dateOf (record { 0 = k })) u (g .1) in
+    let l = landed 3652059 (pos (dayNumber t) +ℤ n) (m .0) (m .1) in
+    let d : Day = record { 0 = m .0 } in
+    let x = unless-given (isDay d) 1 (given (theDate (m .0))) u (m .2) in
+    let k = day-yes d (x .0) in
+    let q : theDate (m .0) ≡ u = given-injective (x .1) in
+    record {
+      from = date-yes t (g .0);
+      dated = subst IsDate q (the-date-is (m .0) (k .0) (k .1));
+      number = l .0 ∙ ap pos (sym (number-found (m .0) (k .0) (k .1)) ∙ ap dayNumber q);
+    }

@@ -1,0 +1,144 @@
+// Dates some months, years or days on: every signed number is answered.
+ghost use mathlib.Core.Path.{_≡_};
+ghost use mathlib.Core.Bool.{true};
+ghost use Prim.Native.Nat.{_≤_};
+ghost use lib.IntN.{pos, _+ℤ_};
+ghost use Rattle.calendar.specs.Dates.{isDate, monthDate};
+ghost use Rattle.calendar.specs.Answers.{dateOutcome};
+ghost use Rattle.date_step.specs.Steps.{placeOutcome, landing, monthsLater, existingDate, yearsLater, daysLater, AddMonthsPromise, AddYearsPromise, AddDaysPromise};
+use calendar::Date;
+use calendar::DateAnswer;
+use calendar::Day;
+
+const LAST_YEAR: u32 = 9999;
+
+const LAST_DAY: u32 = 3652059;
+
+const LAST_MONTH_INDEX: u32 = 119987;
+
+enum PlaceAnswer {
+    Place(u32),
+    Refused(u32),
+}
+
+// Where a signed move leads from a number, up to the last: the one place where signs are met.
+fn land(at: u32, n: i64, last: u32) -> PlaceAnswer
+    requires { ⌜ (at ≤ 3652059) × (last ≤ 3652059) ⌝ }
+    ensures { λ r. ⌜ placeOutcome r ≡ landing last (pos at +ℤ n) ⌝ }
+{
+    if n < -3652059 {
+        return PlaceAnswer::Refused(paper::INVALID_DATE);
+    }
+    if 3652059 < n {
+        return PlaceAnswer::Refused(paper::INVALID_DATE);
+    }
+    let to = at as i64 + n;
+    if to < 0 {
+        return PlaceAnswer::Refused(paper::INVALID_DATE);
+    }
+    let place = to as u32;
+    if last < place {
+        return PlaceAnswer::Refused(paper::INVALID_DATE);
+    }
+    PlaceAnswer::Place(place)
+}
+
+// The day of a month by the month's number, cut to the month's last.
+fn in_month(index: u32, day: u32) -> Date
+    requires { ⌜ index ≤ 119987 ⌝ }
+    ensures { λ r. ⌜ r ≡ monthDate index day ⌝ }
+{
+    let year = index / 12 + 1;
+    let month = index % 12 + 1;
+    let last = gregorian::length_of_month(year, month);
+    if last < day {
+        return Date {
+            year,
+            month,
+            day: last,
+        };
+    }
+    Date { year, month, day }
+}
+
+// Inner: months added to a date that is already judged.
+pub fn months_later(t: Date, n: i32) -> DateAnswer
+    requires { ⌜ isDate t ≡ true ⌝ }
+    ensures { λ r. ⌜ dateOutcome r ≡ monthsLater t n ⌝ }
+{
+    let index = 12 * (t.year - 1) + (t.month - 1);
+    match land(index, n as i64, LAST_MONTH_INDEX) {
+        PlaceAnswer::Place(i) => DateAnswer::Date(in_month(i, t.day)),
+        PlaceAnswer::Refused(k) => DateAnswer::Refused(k),
+    }
+}
+
+// Moves the month, then cuts the day to the month's last.
+pub fn add_months(t: Date, n: i32) -> DateAnswer
+    ensures { λ r. ⌜ AddMonthsPromise t n r ⌝ }
+{
+    if calendar::is_date(t) {
+        months_later(t, n)
+    } else {
+        DateAnswer::Refused(paper::INVALID_DATE)
+    }
+}
+
+// A date, where there is one.
+fn existing(t: Date) -> DateAnswer
+    ensures { λ r. ⌜ dateOutcome r ≡ existingDate t ⌝ }
+{
+    if calendar::is_date(t) {
+        DateAnswer::Date(t)
+    } else {
+        DateAnswer::Refused(paper::INVALID_DATE)
+    }
+}
+
+// Inner: years added to a date that is already judged.
+pub fn years_later(t: Date, n: i32) -> DateAnswer
+    requires { ⌜ isDate t ≡ true ⌝ }
+    ensures { λ r. ⌜ dateOutcome r ≡ yearsLater t n ⌝ }
+{
+    match land(t.year, n as i64, LAST_YEAR) {
+        PlaceAnswer::Place(year) => existing(Date {
+            year,
+            month: t.month,
+            day: t.day,
+        }),
+        PlaceAnswer::Refused(k) => DateAnswer::Refused(k),
+    }
+}
+
+// The same month and day, refused where that year has no such date.
+pub fn add_years(t: Date, n: i32) -> DateAnswer
+    ensures { λ r. ⌜ AddYearsPromise t n r ⌝ }
+{
+    if calendar::is_date(t) {
+        years_later(t, n)
+    } else {
+        DateAnswer::Refused(paper::INVALID_DATE)
+    }
+}
+
+// Inner: days added to a date that is already judged.
+pub fn days_later(t: Date, n: i64) -> DateAnswer
+    requires { ⌜ isDate t ≡ true ⌝ }
+    ensures { λ r. ⌜ dateOutcome r ≡ daysLater t n ⌝ }
+{
+    match land(calendar::number_of(t), n, LAST_DAY) {
+        PlaceAnswer::Place(i) => calendar::date_of(Day(i)),
+        PlaceAnswer::Refused(k) => DateAnswer::Refused(k),
+    }
+}
+
+// Every 64-bit number of days is answered, so that weeks need no rule of their own.
+pub fn add_days(t: Date, n: i64) -> DateAnswer
+    ensures { λ r. ⌜ AddDaysPromise t n r ⌝ }
+{
+    if calendar::is_date(t) {
+        days_later(t, n)
+    } else {
+        DateAnswer::Refused(paper::INVALID_DATE)
+    }
+}

@@ -1,0 +1,4 @@
+pub mod Table
+pub mod Counting
+pub mod Months
+pub mod Years

@@ -1,0 +1,186 @@
+-- The months' lengths at each number, and the days of a year before each month.
+-- Assumes nothing.
+use Prim.Native.Nat.{ℕ, zero, suc, _+_, _-_, _*_, _≤_, _<_}
+use mathlib.Core.Path.{_≡_, refl, sym, _∙_, ap}
+use mathlib.Core.Logic.{_⊎_, inl, inr}
+use mathlib.Core.Bool.{Bool, true, false}
+use native.Mathlib.Omega.{arith}
+use native.Mathlib.Decide.{decLt}
+use lib.ListN.{List·getD-eq-default}
+use lib.Dec.{eqb, leb}
+use borrow.Author.Tests.{leb-true, eqb-true}
+use Rattle.paper.specs.Outcome.{pick}
+use Rattle.gregorian.specs.Gregorian.{leap, lengths, lengthIn, monthLength, yearLength, before, beforeMonth}
+use Rattle.gregorian.proofs.Table.{passes, passes-at}
+
+-- a number past the twelfth is no month's
+past : (b : Bool) (m : ℕ) → 13 ≤ m → lengthIn b m ≡ 0
+unfolding lengthIn
+past b m h = List·getD-eq-default (lengths b) 0 h
+
+-- what a test computes at the twelve months of both kinds of year
+module _ (p : Bool → ℕ → Bool) (n : ℕ) (common : passes (p false) n ≡ true) (long : passes (p true) n ≡ true) where
+  pub in-both : (b : Bool) (k : ℕ) → k < n → p b k ≡ true
+  in-both false k h = passes-at (p false) n common k h
+  in-both true k h = passes-at (p true) n long k h
+
+most : (b : Bool) (m : ℕ) → m < 13 → leb (lengthIn b m) 31 ≡ true
+unfolding lengthIn passes
+most = in-both (λ b m. leb (lengthIn b m) 31) 13 refl refl
+
+least : (b : Bool) (k : ℕ) → k < 12 → leb 28 (lengthIn b (suc k)) ≡ true
+unfolding lengthIn passes
+least = in-both (λ b k. leb 28 (lengthIn b (suc k))) 12 refl refl
+
+-- a month has at most 31 days
+pub length-most : (b : Bool) (m : ℕ) → lengthIn b m ≤ 31
+length-most b m = by (decLt m 13)
+  where
+    by : Dec (m < 13) → lengthIn b m ≤ 31
+    by (yes l) = leb-true (lengthIn b m) 31 (most b m l)
+    by (no l) = rw (past b m (omega arith)) (omega arith)
+
+pub at-most : (y m : ℕ) → monthLength y m ≤ 31
+unfolding monthLength
+at-most y m = length-most (leap y) m
+
+-- each of the twelve has at least 28
+pub at-least : (y m : ℕ) → 1 ≤ m → m ≤ 12 → 28 ≤ monthLength y m
+unfolding monthLength
+at-least y m h k =
+    let e : suc (m - 1) ≡ m = omega arith in
+    rw e at (leb-true 28 (lengthIn (leap y) (suc (m - 1))) (least (leap y) (m - 1) (omega arith)))
+
+no-month : (b : Bool) → lengthIn b 0 ≡ 0
+unfolding lengthIn
+no-month b = refl
+
+-- only a month has days
+pub is-month : (y m : ℕ) → 1 ≤ monthLength y m → (1 ≤ m) × (m ≤ 12)
+unfolding monthLength
+is-month y m h =
+    let b = leap y in
+    let low : m ≡ 0 → ⊥ = λ e. omega (arith, no-month b, ap (lengthIn b) e) in
+    let high : 13 ≤ m → ⊥ = λ l. omega (arith, past b m l) in
+    (omega (arith, low), omega (arith, high))
+
+-- the arms of a match on a month's number
+pub long-first : {m : ℕ} (y : ℕ) → (m ≡ 1) ⊎ ((m ≡ 3) ⊎ ((m ≡ 5) ⊎ (m ≡ 7))) → 31 ≡ monthLength y m
+unfolding monthLength lengthIn
+long-first y (inl e) = rw e
+long-first y (inr (inl e)) = rw e
+long-first y (inr (inr (inl e))) = rw e
+long-first y (inr (inr (inr e))) = rw e
+
+pub long-last : {m : ℕ} (y : ℕ) → (m ≡ 8) ⊎ ((m ≡ 10) ⊎ (m ≡ 12)) → 31 ≡ monthLength y m
+unfolding monthLength lengthIn
+long-last y (inl e) = rw e
+long-last y (inr (inl e)) = rw e
+long-last y (inr (inr e)) = rw e
+
+pub short : {m : ℕ} (y : ℕ) → (m ≡ 4) ⊎ ((m ≡ 6) ⊎ ((m ≡ 9) ⊎ (m ≡ 11))) → 30 ≡ monthLength y m
+unfolding monthLength lengthIn
+short y (inl e) = rw e
+short y (inr (inl e)) = rw e
+short y (inr (inr (inl e))) = rw e
+short y (inr (inr (inr e))) = rw e
+
+pub february : {m : ℕ} (y : ℕ) {b : Bool} → m ≡ 2 → leap y ≡ b → pick b 29 28 ≡ monthLength y m
+unfolding monthLength lengthIn
+february y e h = rw (e, h)
+
+pub none : (y m : ℕ)
+    → ((m ≡ 1) ⊎ ((m ≡ 3) ⊎ ((m ≡ 5) ⊎ (m ≡ 7))) → ⊥) → ((m ≡ 8) ⊎ ((m ≡ 10) ⊎ (m ≡ 12)) → ⊥) → ((m ≡ 4) ⊎ ((m ≡ 6) ⊎ ((m ≡ 9) ⊎ (m ≡ 11))) → ⊥) → (m ≡ 2 → ⊥)
+    → 0 ≡ monthLength y m
+unfolding monthLength
+none y m a b c d = by (decLt 0 m)
+  where
+    up : (k : ℕ) → k ≤ m → (m ≡ k → ⊥) → suc k ≤ m
+    up k h n = omega arith
+
+    by : Dec (0 < m) → 0 ≡ lengthIn (leap y) m
+    by (no l) = let z : m ≡ 0 = omega arith in sym (ap (lengthIn (leap y)) z ∙ no-month (leap y))
+    by (yes l) =
+        let to5 = up 4 (up 3 (up 2 (up 1 l (λ e. a (inl e))) d) (λ e. a (inr (inl e)))) (λ e. c (inl e)) in
+        let to9 = up 8 (up 7 (up 6 (up 5 to5 (λ e. a (inr (inr (inl e))))) (λ e. c (inr (inl e)))) (λ e. a (inr (inr (inr e))))) (λ e. b (inl e)) in
+        sym (past (leap y) m
+        (up 12 (up 11 (up 10 (up 9 to9 (λ e. c (inr (inr (inl e))))) (λ e. b (inr (inl e)))) (λ e. c (inr (inr (inr e))))) (λ e. b (inr (inr e)))))
+
+-- the twelve months make the year
+pub year-of-months : (y : ℕ) → 1 ≤ y → beforeMonth y 13 ≡ yearLength y
+unfolding before monthLength lengthIn yearLength
+year-of-months zero h = absurd (omega arith)
+year-of-months (suc n) h = by (leap (suc n))
+  where
+    by : (b : Bool) → before (lengthIn b) 13 ≡ pick b 366 365
+    by true = refl
+    by false = refl
+
+pub no-year : (y : ℕ) → y < 1 → 0 ≡ yearLength y
+unfolding yearLength
+no-year zero h = refl
+no-year (suc n) h = absurd (omega arith)
+
+pub year-length : (y : ℕ) {b : Bool} → 1 ≤ y → leap y ≡ b → pick b 366 365 ≡ yearLength y
+unfolding yearLength
+year-length zero h e = absurd (omega arith)
+year-length (suc n) h e = rw e
+
+pub year-most : (y : ℕ) → yearLength y ≤ 366
+unfolding yearLength
+year-most zero = omega arith
+year-most (suc n) = by (leap (suc n))
+  where
+    by : (b : Bool) → pick b 366 365 ≤ 366
+    by true = omega arith
+    by false = omega arith
+
+pub year-least : (y : ℕ) → 1 ≤ y → 365 ≤ yearLength y
+unfolding yearLength
+year-least zero h = absurd (omega arith)
+year-least (suc n) h = by (leap (suc n))
+  where
+    by : (b : Bool) → 365 ≤ pick b 366 365
+    by true = omega arith
+    by false = omega arith
+
+pub before-first : (y : ℕ) → beforeMonth y 1 ≡ 0
+unfolding before monthLength lengthIn
+before-first y = refl
+
+-- a leap year's months from March on begin a day later
+early : (b : Bool) (m : ℕ) → m < 3 → eqb (before (lengthIn false) m) (before (lengthIn b) m) ≡ true
+unfolding before lengthIn passes
+early = in-both (λ b m. eqb (before (lengthIn false) m) (before (lengthIn b) m)) 3 refl refl
+
+late : (k : ℕ) → k < 11 → eqb (before (lengthIn false) (k + 3) + 1) (before (lengthIn true) (k + 3)) ≡ true
+unfolding before lengthIn passes
+late = passes-at (λ k. eqb (before (lengthIn false) (k + 3) + 1) (before (lengthIn true) (k + 3))) 11 refl
+
+pub before-early : (y m : ℕ) → m < 3 → before (lengthIn false) m ≡ beforeMonth y m
+unfolding monthLength
+before-early y m h = eqb-true _ _ (early (leap y) m h)
+
+pub before-late : (y m : ℕ) → leap y ≡ true → 3 ≤ m → m ≤ 13 → before (lengthIn false) m + 1 ≡ beforeMonth y m
+unfolding monthLength
+before-late y m l h k =
+    let e : m - 3 + 3 ≡ m = omega arith in
+    rw l (rw e at (eqb-true (before (lengthIn false) (m - 3 + 3) + 1) (before (lengthIn true) (m - 3 + 3)) (late (m - 3) (omega arith))))
+
+pub before-common : (y m : ℕ) → leap y ≡ false → before (lengthIn false) m ≡ beforeMonth y m
+unfolding monthLength
+before-common y m l = rw l
+
+-- the k + 1-st month begins at the latest after 31 days for each month before it, and the k + 3-rd not before 32 days for each
+pub begins-by : (y k : ℕ) → beforeMonth y (suc k) ≤ 31 * k
+unfolding before
+begins-by y zero = omega (arith, before-first y)
+begins-by y (suc k) = omega (arith, begins-by y k, at-most y (suc k))
+
+wide : (b : Bool) (k : ℕ) → k < 11 → leb (32 * suc k) (before (lengthIn b) (k + 3)) ≡ true
+unfolding before lengthIn passes
+wide = in-both (λ b k. leb (32 * suc k) (before (lengthIn b) (k + 3))) 11 refl refl
+
+pub begins-from : (y k : ℕ) → k < 11 → 32 * suc k ≤ beforeMonth y (k + 3)
+unfolding monthLength
+begins-from y k h = leb-true (32 * suc k) (before (lengthIn (leap y)) (k + 3)) (wide (leap y) k h)

@@ -1,0 +1,107 @@
+-- The Gregorian cycle: 400 years of 146097 days, over and over.
+-- Assumes nothing.
+use Prim.Native.Nat.{ℕ, zero, suc, _+_, _-_, _*_, _/_, _%_, _≤_}
+use mathlib.Core.Path.{_≡_, refl, _∙_, ap}
+use mathlib.Core.Bool.{Bool, true, false}
+use native.Mathlib.Omega.{arith}
+use native.Mathlib.Nat.{add-suc}
+use lib.Dec.{eqb}
+use borrow.Author.Tests.{eqb-true, eqb-false}
+use Rattle.paper.specs.Outcome.{pick}
+use Rattle.gregorian.specs.Gregorian.{leap, yearLength, before, beforeYear}
+use Rattle.gregorian.proofs.Counting.{before-suc}
+
+pub leap-cycle : (q r : ℕ) → leap (400 * q + r) ≡ leap r
+unfolding leap
+leap-cycle q r =
+    let a : (400 * q + r) % 100 ≡ r % 100 = omega arith in
+    let b : (400 * q + r) % 400 ≡ r % 400 = omega arith in
+    let d : (400 * q + r) % 4 ≡ r % 4 = omega arith in
+    rw (a, b, d)
+
+length-cycle : (q r : ℕ) → yearLength (400 * q + suc r) ≡ yearLength (suc r)
+unfolding yearLength
+length-cycle q r = rw (add-suc (400 * q) r) (ap (λ (b : Bool). pick b 366 365) (rw (add-suc (400 * q) r) at (leap-cycle q (suc r))))
+
+part : (q r : ℕ) → beforeYear (400 * q + suc r) ≡ beforeYear (400 * q + 1) + beforeYear (suc r)
+unfolding before yearLength
+part q zero = omega arith
+part q (suc r) =
+    ap (before yearLength) (add-suc (400 * q) (suc r)) ∙ before-suc yearLength (400 * q + suc r)
+    ∙ omega (arith, part q r, length-cycle q r, before-suc yearLength (suc r))
+
+pub whole : beforeYear 401 ≡ 146097
+unfolding before yearLength leap
+whole = refl
+
+pub before-one : beforeYear 1 ≡ 0
+unfolding before yearLength
+before-one = refl
+
+cycles : (q : ℕ) → beforeYear (400 * q + 1) ≡ 146097 * q
+cycles zero = before-one
+cycles (suc q) =
+    let e : 400 * suc q + 1 ≡ 400 * q + 401 = omega arith in
+    rw e (omega (arith, part q 400, whole, cycles q))
+
+pub cycle : (q r : ℕ) → beforeYear (400 * q + suc r) ≡ 146097 * q + beforeYear (suc r)
+cycle q r = omega (arith, part q r, cycles q)
+
+-- 9999-12-31
+pub last-day : beforeYear 10000 ≡ 3652059
+unfolding before yearLength leap
+last-day = cycle 24 399
+
+-- the years before the year y, of which there are y - 1
+pub by-cycles : (y : ℕ) → 1 ≤ y → beforeYear y ≡ 146097 * ((y - 1) / 400) + beforeYear (suc ((y - 1) % 400))
+by-cycles y h =
+    let e : y ≡ 400 * ((y - 1) / 400) + suc ((y - 1) % 400) = omega arith in
+    ap beforeYear e ∙ cycle ((y - 1) / 400) ((y - 1) % 400)
+
+by-rule : (n : ℕ) (b c d : Bool) → eqb (suc n % 100) 0 ≡ b → eqb (suc n % 400) 0 ≡ c → eqb (suc n % 4) 0 ≡ d → yearLength (suc n) ≡ pick (pick b c d) 366 365
+unfolding yearLength leap
+by-rule n b c d p q r = rw (p, q, r)
+
+rises-4 : (n : ℕ) → suc n % 4 ≡ 0 → suc n / 4 ≡ suc (n / 4)
+rises-4 n h = omega arith
+
+stays-4 : (n : ℕ) → (suc n % 4 ≡ 0 → ⊥) → suc n / 4 ≡ n / 4
+stays-4 n h = omega arith
+
+rises-100 : (n : ℕ) → suc n % 100 ≡ 0 → suc n / 100 ≡ suc (n / 100)
+rises-100 n h = omega arith
+
+stays-100 : (n : ℕ) → (suc n % 100 ≡ 0 → ⊥) → suc n / 100 ≡ n / 100
+stays-100 n h = omega arith
+
+rises-400 : (n : ℕ) → suc n % 400 ≡ 0 → suc n / 400 ≡ suc (n / 400)
+rises-400 n h = omega arith
+
+stays-400 : (n : ℕ) → (suc n % 400 ≡ 0 → ⊥) → suc n / 400 ≡ n / 400
+stays-400 n h = omega arith
+
+-- the sum moves as its parts do
+moves : (x x' l a a' b b' c c' n : ℕ) → x + b ≡ 365 * n + a + c → x' ≡ x + l → l + b' + a + c ≡ 365 + b + a' + c' → x' + b' ≡ 365 * suc n + a' + c'
+moves x x' l a a' b b' c c' n p q r = omega arith
+
+-- the usual closed form, for a reader: 365 days for each year, and a day for each leap year
+pub closed : (n : ℕ) → beforeYear (suc n) + n / 100 ≡ 365 * n + n / 4 + n / 400
+closed zero = omega (arith, before-one)
+closed (suc n) =
+    moves (beforeYear (suc n)) (beforeYear (suc (suc n))) (yearLength (suc n)) (n / 4) (suc n / 4) (n / 100) (suc n / 100) (n / 400) (suc n / 400) n
+    (closed n) (before-suc yearLength (suc n))
+    (by (eqb (suc n % 100) 0) (eqb (suc n % 400) 0) (eqb (suc n % 4) 0) refl refl refl)
+  where
+    by : (b c d : Bool) → eqb (suc n % 100) 0 ≡ b → eqb (suc n % 400) 0 ≡ c → eqb (suc n % 4) 0 ≡ d → yearLength (suc n) + suc n / 100 + n / 4 + n / 400 ≡ 365 + n / 100 + suc n / 4 + suc n / 400
+    by true true true p q r =
+        rw (by-rule n true true true p q r, rises-100 n (eqb-true (suc n % 100) 0 p), rises-400 n (eqb-true (suc n % 400) 0 q), rises-4 n (eqb-true (suc n % 4) 0 r)) (omega arith)
+    by true true false p q r = absurd (omega (arith, eqb-true (suc n % 100) 0 p, eqb-false (suc n % 4) 0 r))
+    by true false true p q r =
+        rw (by-rule n true false true p q r, rises-100 n (eqb-true (suc n % 100) 0 p), stays-400 n (eqb-false (suc n % 400) 0 q), rises-4 n (eqb-true (suc n % 4) 0 r)) (omega arith)
+    by true false false p q r = absurd (omega (arith, eqb-true (suc n % 100) 0 p, eqb-false (suc n % 4) 0 r))
+    by false true true p q r = absurd (omega (arith, eqb-true (suc n % 400) 0 q, eqb-false (suc n % 100) 0 p))
+    by false true false p q r = absurd (omega (arith, eqb-true (suc n % 400) 0 q, eqb-false (suc n % 100) 0 p))
+    by false false true p q r =
+        rw (by-rule n false false true p q r, stays-100 n (eqb-false (suc n % 100) 0 p), stays-400 n (eqb-false (suc n % 400) 0 q), rises-4 n (eqb-true (suc n % 4) 0 r)) (omega arith)
+    by false false false p q r =
+        rw (by-rule n false false false p q r, stays-100 n (eqb-false (suc n % 100) 0 p), stays-400 n (eqb-false (suc n % 400) 0 q), stays-4 n (eqb-false (suc n % 4) 0 r)) (omega arith)

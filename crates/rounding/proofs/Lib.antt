@@ -1,0 +1,13 @@
+pub mod Examples
+pub mod Algebra
+pub mod HalfUnit
+pub mod Operations
+pub mod Integers
+pub mod Near
+pub mod Product
+pub mod Quotient
+pub mod CloseLaws
+pub mod Range
+pub mod Zero
+pub mod Gap
+pub mod LawExamples

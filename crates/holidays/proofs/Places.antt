@@ -1,0 +1,179 @@
+-- The place in a table that a day splits it at: how it is found by halving, how it moves with the day, and what it says of the day.
+-- Assumes nothing.
+use Prim.Native.Nat.{ℕ, zero, suc, _+_, _-_, _≤_, _<_, zero-le}
+use mathlib.Core.Path.{_≡_, sym, ap, subst, _∙_}
+use mathlib.Core.Bool.{true, false}
+use mathlib.Core.List.{List, _∷_}
+use native.Mathlib.Omega.{arith}
+use native.Mathlib.Decide.{decLt}
+use lib.ListN.{length, getD, take, drop, length-drop, List·getD-eq-default}
+use lib.Seq.{getD-take, getD-drop, length-take-le}
+use Rattle.holidays.specs.Table.{ascending, listed}
+use Rattle.holidays.specs.Search.{Splits}
+use Rattle.holidays.proofs.Table.{in-order, listed-at, unlisted}
+
+-- halving: the place lies between lo and hi
+pub record Bracket (t : List ℕ) (n lo hi : ℕ) : Type 0 where
+  pub sorted : (p q : ℕ) → p < q → q < length t → getD t p 0 < getD t q 0
+  pub ordered : lo ≤ hi
+  pub within : hi ≤ length t
+  pub before : (k : ℕ) → k < lo → getD t k 0 < n
+  pub after : (k : ℕ) → hi ≤ k → k < length t → n ≤ getD t k 0
+
+pub bracket-whole : (t : List ℕ) (n : ℕ) → ascending t ≡ true → Bracket t n 0 (length t)
+bracket-whole t n a = record {
+  sorted = in-order 1 t a;
+  ordered = zero-le;
+  within = omega arith;
+  before = λ k l. absurd (omega arith);
+  after = λ k l m. absurd (omega arith);
+}
+
+module _ {t : List ℕ} {n lo hi : ℕ} (b : Bracket t n lo hi) where
+  pub bracket-up : (m : ℕ) → lo ≤ m → m < hi → getD t m 0 < n → Bracket t n (m + 1) hi
+  bracket-up m l h e = record {
+    sorted = b .sorted;
+    ordered = omega arith;
+    within = b .within;
+    before = λ k f. by k f (decLt k m);
+    after = b .after;
+  }
+    where
+      by : (k : ℕ) → k < m + 1 → Dec (k < m) → getD t k 0 < n
+      by k f (yes g) = omega (arith, b .within, b .sorted k m g (omega (arith, b .within)))
+      by k f (no g) = let i : k ≡ m = omega arith in omega (arith, ap (λ (x : ℕ). getD t x 0) i)
+
+  pub bracket-down : (m : ℕ) → lo ≤ m → m < hi → n ≤ getD t m 0 → Bracket t n lo m
+  bracket-down m l h e = record {
+    sorted = b .sorted;
+    ordered = l;
+    within = omega (arith, b .within);
+    before = b .before;
+    after = λ k f g. by k f g (decLt m k);
+  }
+    where
+      by : (k : ℕ) → m ≤ k → k < length t → Dec (m < k) → n ≤ getD t k 0
+      by k f g (yes d) = omega (arith, b .sorted m k d g)
+      by k f g (no d) = let i : m ≡ k = omega arith in omega (arith, ap (λ (x : ℕ). getD t x 0) i)
+
+  pub bracket-ends : hi ≤ lo → Splits t n lo
+  bracket-ends h = record {
+    sorted = b .sorted;
+    within = omega (arith, b .ordered, b .within);
+    before = b .before;
+    after = λ k f g. b .after k (omega arith) g;
+  }
+
+module _ {t : List ℕ} {n i : ℕ} (s : Splits t n i) where
+  -- the part from the place on, and the part up to it
+  pub part-after : Splits (drop i t) n 0
+  part-after = record {
+    sorted = λ p q l h. rw (getD-drop i t p 0, getD-drop i t q 0) (s .sorted (i + p) (i + q) (omega arith) (omega (arith, length-drop i t)));
+    within = zero-le;
+    before = λ k l. absurd (omega arith);
+    after = λ k l h. rw (getD-drop i t k 0) (s .after (i + k) (omega arith) (omega (arith, length-drop i t)));
+  }
+
+  pub part-before : Splits (take i t) n (length (take i t))
+  part-before =
+      let e : length (take i t) ≡ i = length-take-le i t (s .within) in
+      record {
+        sorted = λ p q l h. rw (getD-take i t p 0 (omega arith), getD-take i t q 0 (omega arith)) (s .sorted p q l (omega (arith, s .within)));
+        within = omega arith;
+        before = λ k l. rw (getD-take i t k 0 (omega arith)) (s .before k (omega arith));
+        after = λ k l h. absurd (omega arith);
+      }
+
+  -- a day of which the table lists none between it and the next place is not listed
+  pub skipped : (m : ℕ) → m ≡ n + 1 → Splits t m i → listed n t ≡ false
+  skipped m e u = unlisted n t (λ k l i. by k l i (decLt k _))
+    where
+      by : (k : ℕ) → k < length t → getD t k 0 ≡ n → Dec (k < i) → ⊥
+      by k l f (yes g) = omega (arith, s .before k g)
+      by k l f (no g) = omega (arith, u .after k (omega arith) l)
+
+  -- forwards: the day is the holiday at the place
+  module _ (d : 1 ≤ n) (e : n ≡ getD t i 0) where
+    pub there : i < length t
+    there = by (decLt i (length t))
+      where
+        by : Dec (i < length t) → i < length t
+        by (yes g) = g
+        by (no g) = absurd (omega (arith, List·getD-eq-default t 0 {n = i} (omega arith)))
+
+    pub met : listed n t ≡ true
+    met = subst (λ (x : ℕ). listed x t ≡ true) (sym e) (listed-at t i there)
+
+    pub met-on : Splits t (n + 1) (i + 1)
+    met-on = record {
+      sorted = s .sorted;
+      within = omega (arith, there);
+      before = λ k l. by k l (decLt k i);
+      after = λ k l h. omega (arith, s .sorted i k (omega arith) h);
+    }
+      where
+        by : (k : ℕ) → k < i + 1 → Dec (k < i) → getD t k 0 < n + 1
+        by k l (yes g) = omega (arith, s .before k g)
+        by k l (no g) = let j : k ≡ i = omega arith in omega (arith, ap (λ (x : ℕ). getD t x 0) j)
+
+  -- or it is not
+  pub past-on : (n ≡ getD t i 0 → ⊥) → Splits t (n + 1) i
+  past-on h = record {
+    sorted = s .sorted;
+    within = s .within;
+    before = λ k l. omega (arith, s .before k l);
+    after = λ k l m. by k l m (decLt i k);
+  }
+    where
+      by : (k : ℕ) → i ≤ k → k < length t → Dec (i < k) → n + 1 ≤ getD t k 0
+      by k l m (yes g) = omega (arith, s .after i (omega arith) (omega arith), s .sorted i k g m)
+      by k l m (no g) =
+          let j : i ≡ k = omega arith in
+          let f : n ≡ getD t k 0 → ⊥ = λ e. h (e ∙ ap (λ (x : ℕ). getD t x 0) (sym j)) in
+          omega (arith, s .after k l m, f)
+
+-- backwards: the day before is the holiday before the place
+pub record Met (t : List ℕ) (n i : ℕ) : Type 0 where
+  pub inside : 0 < i
+  pub there : listed (n - 1) t ≡ true
+  pub splits : Splits t (n - 1) (i - 1)
+
+module _ {t : List ℕ} {n : ℕ} where
+  pub met-back : (i : ℕ) → Splits t n i → 1 < n → n - 1 ≡ getD (0 ∷ t) i 0 → Met t n i
+  met-back zero s d e = absurd (omega arith)
+  met-back (suc j) s d e = record {
+    inside = omega arith;
+    there = subst (λ (x : ℕ). listed x t ≡ true) (sym e) (listed-at t j (omega (arith, s .within)));
+    splits = record {
+      sorted = s .sorted;
+      within = omega (arith, s .within);
+      before = λ k l. omega (arith, s .sorted k j (omega arith) (omega (arith, s .within)));
+      after = λ k l m. by k (omega arith) m (decLt j k);
+    };
+  }
+    where
+      by : (k : ℕ) → j ≤ k → k < length t → Dec (j < k) → n - 1 ≤ getD t k 0
+      by k l m (yes g) = omega (arith, s .sorted j k g m)
+      by k l m (no g) = let i : j ≡ k = omega arith in omega (arith, ap (λ (x : ℕ). getD t x 0) i)
+
+  -- or it is not
+  pub past-back : (i : ℕ) → Splits t n i → 1 < n → (n - 1 ≡ getD (0 ∷ t) i 0 → ⊥) → Splits t (n - 1) i
+  past-back zero s d h = record {
+    sorted = s .sorted;
+    within = zero-le;
+    before = λ k l. absurd (omega arith);
+    after = λ k l m. omega (arith, s .after k l m);
+  }
+  past-back (suc j) s d h = record {
+    sorted = s .sorted;
+    within = s .within;
+    before = λ k l. by k l (decLt k j);
+    after = λ k l m. omega (arith, s .after k l m);
+  }
+    where
+      last : getD t j 0 < n - 1
+      last = omega (arith, s .before j (omega arith), h)
+
+      by : (k : ℕ) → k < suc j → Dec (k < j) → getD t k 0 < n - 1
+      by k l (yes g) = omega (arith, last, s .sorted k j g (omega (arith, s .within)))
+      by k l (no g) = let i : k ≡ j = omega arith in omega (arith, last, ap (λ (x : ℕ). getD t x 0) i)

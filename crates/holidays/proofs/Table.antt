@@ -1,0 +1,111 @@
+-- The laws of a holiday table: its order, the test that finds it, and which days are listed in it and in a part of it.
+-- Assumes nothing.
+use Prim.Native.Nat.{ℕ, zero, suc, _+_, _≤_, _<_}
+use mathlib.Core.Path.{_≡_, refl, sym, ap, _∙_}
+use mathlib.Core.Bool.{Bool, true, false, _||_}
+use mathlib.Core.List.{List, [], _∷_}
+use native.Mathlib.Omega.{arith}
+use native.Mathlib.Numerals.{add-one}
+use lib.ListN.{length, getD, take, drop, drop-of-length-le}
+use lib.Dec.{eqb, leb}
+use lib.Seq.{drop-cons}
+use borrow.Author.Tests.{le-leb, lt-leb, leb-true, eq-eqb, ne-eqb}
+use Rattle.paper.proofs.Outcomes.{both-true}
+use Rattle.holidays.specs.Table.{ascendsFrom, ascending, isTable, listed}
+
+-- what an ascending list says of its head and of the rest
+ascends-cons : (low d : ℕ) (ds : List ℕ) → ascendsFrom low (d ∷ ds) ≡ true → (low ≤ d) × (d ≤ 3652059) × (ascendsFrom (d + 1) ds ≡ true)
+unfolding ascendsFrom
+ascends-cons low d ds e =
+    let p = both-true _ _ e in
+    let q = both-true _ _ (p .1) in
+    (leb-true _ _ (p .0), leb-true _ _ (q .0), q .1)
+
+pub from-low : (low : ℕ) (t : List ℕ) → ascendsFrom low t ≡ true → (k : ℕ) → k < length t → low ≤ getD t k 0
+from-low low [] e k h = absurd (omega arith)
+from-low low (d ∷ ds) e zero h = ascends-cons low d ds e .0
+from-low low (d ∷ ds) e (suc k) h =
+    let a = ascends-cons low d ds e in
+    omega (arith, a, from-low (d + 1) ds (a .2) k (omega arith))
+
+-- the days of an ascending list stand in strict order
+pub in-order : (low : ℕ) (t : List ℕ) → ascendsFrom low t ≡ true → (p q : ℕ) → p < q → q < length t → getD t p 0 < getD t q 0
+in-order low [] e p q h l = absurd (omega arith)
+in-order low (d ∷ ds) e p zero h l = absurd (omega arith)
+in-order low (d ∷ ds) e zero (suc q) h l = omega (arith, from-low (d + 1) ds (ascends-cons low d ds e .2) q (omega arith))
+in-order low (d ∷ ds) e (suc p) (suc q) h l = in-order (d + 1) ds (ascends-cons low d ds e .2) p q (omega arith) (omega arith)
+
+-- and none is past the calendar
+pub by-last : (low : ℕ) (t : List ℕ) → ascendsFrom low t ≡ true → (k : ℕ) → k < length t → getD t k 0 ≤ 3652059
+by-last low [] e k h = absurd (omega arith)
+by-last low (d ∷ ds) e zero h = ascends-cons low d ds e .1
+by-last low (d ∷ ds) e (suc k) h = by-last (d + 1) ds (ascends-cons low d ds e .2) k (omega arith)
+
+-- and a list of days of the calendar in strict order ascends
+pub ascends-by-order : (low : ℕ) (t : List ℕ) → ((k : ℕ) → k < length t → (low ≤ getD t k 0) × (getD t k 0 ≤ 3652059)) → ((p q : ℕ) → p < q → q < length t → getD t p 0 < getD t q 0) → ascendsFrom low t ≡ true
+unfolding ascendsFrom
+ascends-by-order low [] b o = refl
+ascends-by-order low (d ∷ ds) b o =
+    let r =
+    ascends-by-order (d + 1) ds (λ k h. (omega (arith, o 0 (suc k) (omega arith) (omega arith)), b (suc k) (omega arith) .1))
+    (λ p q h l. o (suc p) (suc q) (omega arith) (omega arith)) in
+    simp (le-leb low d (b 0 (omega arith) .0), le-leb d 3652059 (b 0 (omega arith) .1), r)
+
+-- the test of a table: what is left of it decides
+module _ (t : List ℕ) (low i : ℕ) (e : ascending t ≡ ascendsFrom low (drop i t)) where
+  at-place : i < length t → ascending t ≡ ascendsFrom low (getD t i 0 ∷ drop (i + 1) t)
+  at-place l = e ∙ ap (ascendsFrom low) (drop-cons t i 0 l ∙ ap (λ (n : ℕ). getD t i 0 ∷ drop n t) (sym (add-one i)))
+
+  pub too-early : i < length t → getD t i 0 < low → ascending t ≡ false
+  unfolding ascendsFrom
+  too-early l h = at-place l ∙ simp (lt-leb low (getD t i 0) h)
+
+  pub too-late : i < length t → low ≤ getD t i 0 → 3652059 < getD t i 0 → ascending t ≡ false
+  unfolding ascendsFrom
+  too-late l h k = at-place l ∙ simp (le-leb low (getD t i 0) h, lt-leb (getD t i 0) 3652059 k)
+
+  pub passed : i < length t → low ≤ getD t i 0 → getD t i 0 ≤ 3652059 → ascending t ≡ ascendsFrom (getD t i 0 + 1) (drop (i + 1) t)
+  unfolding ascendsFrom
+  passed l h k = at-place l ∙ simp (le-leb low (getD t i 0) h, le-leb (getD t i 0) 3652059 k)
+
+  pub all-passed : length t ≤ i → ascending t ≡ true
+  unfolding ascendsFrom
+  all-passed h = e ∙ ap (ascendsFrom low) (drop-of-length-le t h)
+
+-- a table that is taken ascends
+pub table-ascends : (t : List ℕ) → isTable t ≡ true → ascending t ≡ true
+unfolding isTable
+table-ascends t e = both-true (leb (length t) 4096) (ascending t) e .1
+
+-- the day at a place is listed, and a day that stands at none is not
+pub listed-at : (t : List ℕ) (k : ℕ) → k < length t → listed (getD t k 0) t ≡ true
+unfolding listed
+listed-at [] k h = absurd (omega arith)
+listed-at (d ∷ ds) zero h = simp (eq-eqb d d refl)
+listed-at (d ∷ ds) (suc k) h = rw (listed-at ds k (omega arith)) (or-true (eqb (getD ds k 0) d))
+  where
+    or-true : (b : Bool) → (b || true) ≡ true
+    or-true true = refl
+    or-true false = refl
+
+listed-past : (x d : ℕ) (ds : List ℕ) → (d ≡ x → ⊥) → listed x (d ∷ ds) ≡ listed x ds
+unfolding listed
+listed-past x d ds h = simp (ne-eqb x d (λ i. h (sym i)))
+
+pub unlisted : (x : ℕ) (t : List ℕ) → ((k : ℕ) → k < length t → getD t k 0 ≡ x → ⊥) → listed x t ≡ false
+unfolding listed
+unlisted x [] h = refl
+unlisted x (d ∷ ds) h = listed-past x d ds (h 0 (omega arith)) ∙ unlisted x ds (λ k l. h (suc k) (omega arith))
+
+-- a part of a table lists what the whole does, but for the days that are cut off
+pub listed-drop : (x : ℕ) (t : List ℕ) (i : ℕ) → ((k : ℕ) → k < i → getD t k 0 ≡ x → ⊥) → listed x (drop i t) ≡ listed x t
+listed-drop x t zero h = refl
+listed-drop x [] (suc i) h = refl
+listed-drop x (d ∷ ds) (suc i) h =
+    listed-drop x ds i (λ k l. h (suc k) (omega arith)) ∙ sym (listed-past x d ds (h 0 (omega arith)))
+
+pub listed-take : (x : ℕ) (t : List ℕ) (i : ℕ) → ((k : ℕ) → i ≤ k → k < length t → getD t k 0 ≡ x → ⊥) → listed x (take i t) ≡ listed x t
+unfolding listed
+listed-take x t zero h = unlisted x [] (λ k l. absurd (omega arith)) ∙ sym (unlisted x t (λ k l. h k (omega arith) l))
+listed-take x [] (suc i) h = refl
+listed-take x (d ∷ ds) (suc i) h = rw (listed-take x ds i (λ k l m. h (suc k) (omega arith) (omega arith)))

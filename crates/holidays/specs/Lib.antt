@@ -1,0 +1,4 @@
+pub mod Table
+pub mod Business
+pub mod Answers
+pub mod Search

@@ -1,0 +1,21 @@
+-- What the functions behind the entry points ask of their callers, and what the search of the table finds.
+-- Assumes nothing.
+use Prim.Native.Nat.{ℕ, _≤_, _<_}
+use mathlib.Core.Path.{_≡_}
+use mathlib.Core.Bool.{true}
+use mathlib.Core.List.{List}
+use lib.ListN.{length, getD}
+use Rattle.holidays.specs.Table.{ascending}
+
+-- a serial day of the calendar, and holidays that ascend, however many
+pub record Judged (n : ℕ) (t : List ℕ) : Type 0 where
+  pub from : 1 ≤ n
+  pub to : n ≤ 3652059
+  pub sorted : ascending t ≡ true
+
+-- in an ascending list, i is the place of the first day that is not before n
+pub record Splits (t : List ℕ) (n i : ℕ) : Type 0 where
+  pub sorted : (p q : ℕ) → p < q → q < length t → getD t p 0 < getD t q 0
+  pub within : i ≤ length t
+  pub before : (k : ℕ) → k < i → getD t k 0 < n
+  pub after : (k : ℕ) → i ≤ k → k < length t → n ≤ getD t k 0

@@ -1,0 +1,247 @@
+// Business days over a lent holiday table: what finql asks of `cal_calc`. The weekend is Saturday and Sunday.
+use calendar::Day;
+use calendar::DayAnswer;
+ghost use mathlib.Core.Path.{_≡_};
+ghost use mathlib.Core.Bool.{true};
+ghost use mathlib.Core.List.{_∷_};
+ghost use Prim.Native.Nat.{_+_, _≤_};
+ghost use lib.ListN.{length, getD};
+ghost use Rattle.calendar.specs.Answers.{dayOutcome};
+ghost use Rattle.holidays.specs.Table.{ascending};
+ghost use Rattle.holidays.specs.Business.{isWeekend, isBusiness, nextFrom, prevFrom, laterFrom, earlierFrom};
+ghost use Rattle.holidays.specs.Answers.{TablePromise, BusinessPromise, NextPromise, PreviousPromise, LaterPromise, EarlierPromise};
+ghost use Rattle.holidays.specs.Search.{Judged, Splits};
+
+pub enum BusinessAnswer {
+    Business(bool),
+    Refused(u32),
+}
+
+const MOST_HOLIDAYS: usize = 4096;
+
+const FIRST_DAY: u32 = 1;
+
+const LAST_DAY: u32 = 3652059;
+
+const SATURDAY: u32 = 6;
+
+fn is_ascending(table: &[u32]) -> bool
+    ensures { λ r. ⌜ r ≡ ascending (now (table .entry)) ⌝ }
+{
+    let mut low = FIRST_DAY;
+    let mut i: usize = 0;
+    while i < table.len() {
+        let day = table[i];
+        if day < low {
+            return false;
+        }
+        if LAST_DAY < day {
+            return false;
+        }
+        low = day + 1;
+        i += 1;
+    }
+    true
+}
+
+// Whether a holiday table is taken; where it is not, every question over it is refused with 13.
+pub fn is_table(table: &[u32]) -> bool
+    ensures { λ r. ⌜ TablePromise (now (table .entry)) r ⌝ }
+{
+    if MOST_HOLIDAYS < table.len() {
+        return false;
+    }
+    is_ascending(table)
+}
+
+fn is_weekend(n: u32) -> bool
+    requires { ⌜ (1 ≤ n) × (n ≤ 3652059) ⌝ }
+    ensures { λ r. ⌜ r ≡ isWeekend n ⌝ }
+{
+    SATURDAY <= (n + 6) % 7 + 1
+}
+
+// The place of the first holiday that is not before a day, by halving.
+fn first_from(table: &[u32], n: u32) -> usize
+    requires { ⌜ ascending (now table) ≡ true ⌝ }
+    ensures { λ r. ⌜ Splits (now (table .entry)) n r ⌝ }
+{
+    let mut lo: usize = 0;
+    let mut hi = table.len();
+    while lo < hi {
+        let mid = lo + (hi - lo) / 2;
+        if table[mid] < n {
+            lo = mid + 1;
+        } else {
+            hi = mid;
+        }
+    }
+    lo
+}
+
+// The holiday at a place; 0, which is no day, past the end.
+fn holiday_at(table: &[u32], i: usize) -> u32
+    ensures { λ r. ⌜ r ≡ getD (now (table .entry)) i 0 ⌝ }
+{
+    if i < table.len() { table[i] } else { 0 }
+}
+
+// The holiday before a place; 0, which is no day, at the start.
+fn holiday_before(table: &[u32], i: usize) -> u32
+    requires { ⌜ i ≤ length (now table) ⌝ }
+    ensures { λ r. ⌜ r ≡ getD (0 ∷ now (table .entry)) i 0 ⌝ }
+{
+    if 0 < i { table[i - 1] } else { 0 }
+}
+
+// Day by day, with the next holiday alongside: over the part of the table that begins with the first holiday after n.
+fn walk_on(part: &[u32], n: u32, k: u32) -> DayAnswer
+    requires { ⌜ (Splits (now part) (n + 1) 0) × (n ≤ 3652059) ⌝ }
+    ensures { λ r. ⌜ dayOutcome r ≡ laterFrom (now (part .entry)) k n ⌝ }
+{
+    let mut at = n;
+    let mut left = k;
+    let mut i: usize = 0;
+    let mut holiday = holiday_at(part, i);
+    while 0 < left {
+        if LAST_DAY <= at {
+            return DayAnswer::Refused(paper::INVALID_DATE);
+        }
+        at += 1;
+        if at == holiday {
+            i += 1;
+            holiday = holiday_at(part, i);
+            continue;
+        }
+        if is_weekend(at) {
+            continue;
+        }
+        left -= 1;
+    }
+    DayAnswer::Day(Day(at))
+}
+
+// The same backwards: over the part of the table that ends with the last holiday before n.
+fn walk_back(part: &[u32], n: u32, k: u32) -> DayAnswer
+    requires { ⌜ (Splits (now part) n (length (now part))) × (1 ≤ n) × (n ≤ 3652059) ⌝ }
+    ensures { λ r. ⌜ dayOutcome r ≡ earlierFrom (now (part .entry)) k n ⌝ }
+{
+    let mut at = n;
+    let mut left = k;
+    let mut i = part.len();
+    let mut holiday = holiday_before(part, i);
+    while 0 < left {
+        if at <= FIRST_DAY {
+            return DayAnswer::Refused(paper::INVALID_DATE);
+        }
+        at -= 1;
+        if at == holiday {
+            i -= 1;
+            holiday = holiday_before(part, i);
+            continue;
+        }
+        if is_weekend(at) {
+            continue;
+        }
+        left -= 1;
+    }
+    DayAnswer::Day(Day(at))
+}
+
+// Inner: of a day and holidays already judged, and with no limit to their number, so that a caller who asks often judges once.
+pub fn business_on(n: u32, table: &[u32]) -> bool
+    requires { ⌜ Judged n (now table) ⌝ }
+    ensures { λ r. ⌜ r ≡ isBusiness (now (table .entry)) n ⌝ }
+{
+    if is_weekend(n) {
+        return false;
+    }
+    let i = first_from(table, n);
+    holiday_at(table, i) != n
+}
+
+// Inner: k business days on, of a day and holidays already judged. One search, then the walk over the part of the table from there.
+pub fn later_from(n: u32, k: u32, table: &[u32]) -> DayAnswer
+    requires { ⌜ Judged n (now table) ⌝ }
+    ensures { λ r. ⌜ dayOutcome r ≡ laterFrom (now (table .entry)) k n ⌝ }
+{
+    let i = first_from(table, n + 1);
+    walk_on(&table[i..], n, k)
+}
+
+// Inner: k business days back, of a day and holidays already judged. One search, then the walk over the part of the table up to there.
+pub fn earlier_from(n: u32, k: u32, table: &[u32]) -> DayAnswer
+    requires { ⌜ Judged n (now table) ⌝ }
+    ensures { λ r. ⌜ dayOutcome r ≡ earlierFrom (now (table .entry)) k n ⌝ }
+{
+    let i = first_from(table, n);
+    walk_back(&table[..i], n, k)
+}
+
+// Inner: the next business day, of a day and holidays already judged.
+pub fn next_from(n: u32, table: &[u32]) -> DayAnswer
+    requires { ⌜ Judged n (now table) ⌝ }
+    ensures { λ r. ⌜ dayOutcome r ≡ nextFrom (now (table .entry)) n ⌝ }
+{
+    later_from(n, 1, table)
+}
+
+// Inner: the previous business day, of a day and holidays already judged.
+pub fn prev_from(n: u32, table: &[u32]) -> DayAnswer
+    requires { ⌜ Judged n (now table) ⌝ }
+    ensures { λ r. ⌜ dayOutcome r ≡ prevFrom (now (table .entry)) n ⌝ }
+{
+    earlier_from(n, 1, table)
+}
+
+pub fn is_business_day(d: Day, table: &[u32]) -> BusinessAnswer
+    ensures { λ r. ⌜ BusinessPromise d (now (table .entry)) r ⌝ }
+{
+    if !calendar::is_day(d) {
+        return BusinessAnswer::Refused(paper::INVALID_DATE);
+    }
+    if !is_table(table) {
+        return BusinessAnswer::Refused(paper::BAD_HOLIDAY_TABLE);
+    }
+    BusinessAnswer::Business(business_on(d.0, table))
+}
+
+// k business days on; 0 of them stay on the day, a business day or not.
+pub fn bdays_later(d: Day, k: u32, table: &[u32]) -> DayAnswer
+    ensures { λ r. ⌜ LaterPromise d k (now (table .entry)) r ⌝ }
+{
+    if !calendar::is_day(d) {
+        return DayAnswer::Refused(paper::INVALID_DATE);
+    }
+    if !is_table(table) {
+        return DayAnswer::Refused(paper::BAD_HOLIDAY_TABLE);
+    }
+    later_from(d.0, k, table)
+}
+
+// k business days back; 0 of them stay on the day, a business day or not.
+pub fn bdays_earlier(d: Day, k: u32, table: &[u32]) -> DayAnswer
+    ensures { λ r. ⌜ EarlierPromise d k (now (table .entry)) r ⌝ }
+{
+    if !calendar::is_day(d) {
+        return DayAnswer::Refused(paper::INVALID_DATE);
+    }
+    if !is_table(table) {
+        return DayAnswer::Refused(paper::BAD_HOLIDAY_TABLE);
+    }
+    earlier_from(d.0, k, table)
+}
+
+// The next business day, strictly later.
+pub fn next_bday(d: Day, table: &[u32]) -> DayAnswer
+    ensures { λ r. ⌜ NextPromise d (now (table .entry)) r ⌝ }
+{
+    bdays_later(d, 1, table)
+}
+
+// The previous business day, strictly earlier.
+pub fn prev_bday(d: Day, table: &[u32]) -> DayAnswer
+    ensures { λ r. ⌜ PreviousPromise d (now (table .entry)) r ⌝ }
+{
+    bdays_earlier(d, 1, table)
+}

@@ -1,0 +1,9 @@
+pub mod Decimals
+pub mod Signs
+pub mod Digits
+pub mod Putting
+pub mod Writers
+pub mod Shortest
+pub mod RoundTrips
+pub mod OneOutcome
+pub mod Examples

@@ -1,0 +1,66 @@
+-- No second outcome meets a promise: each fixes the answer and the bytes. Assumes nothing.
+use Prim.Native.Nat.{ℕ}
+use mathlib.Core.Path.{_≡_, sym, ap, _∙_}
+use mathlib.Core.List.{List}
+use lib.IntN.{ℤ}
+use Rattle.paper.specs.Outcome.{Outcome}
+use Rattle.paper.proofs.Outcomes.{given-injective, refused-injective, given-not-refused}
+use Rattle.text.specs.declared.NumberAnswer.{NumberAnswer}
+use Rattle.text.specs.declared.NumberAnswer.the-variants as number
+use Rattle.text.specs.declared.SignedAnswer.{SignedAnswer}
+use Rattle.text.specs.declared.SignedAnswer.the-variants as signed
+use Rattle.text.specs.declared.LengthAnswer.{LengthAnswer}
+use Rattle.text.specs.declared.LengthAnswer.the-variants as length
+use Rattle.text.specs.Reading.{numberOutcome, signedOutcome, ReadsDecimal, ReadsUnsigned, ReadsSigned}
+use Rattle.text.specs.Writing.{Wrote, Written, lengthOutcome, TakesDecimal, TakesPadded, TakesSigned}
+
+pub same-number : (r t : NumberAnswer) → numberOutcome r ≡ numberOutcome t → r ≡ t
+same-number (number.Number v) (number.Number w) e = ap number.Number (given-injective e)
+same-number (number.Number v) (number.Refused n) e = absurd (given-not-refused e)
+same-number (number.Refused n) (number.Number v) e = absurd (given-not-refused (sym e))
+same-number (number.Refused m) (number.Refused n) e = ap number.Refused (refused-injective e)
+
+pub same-signed : (r t : SignedAnswer) → signedOutcome r ≡ signedOutcome t → r ≡ t
+same-signed (signed.Number v) (signed.Number w) e = ap signed.Number (given-injective e)
+same-signed (signed.Number v) (signed.Refused n) e = absurd (given-not-refused e)
+same-signed (signed.Refused n) (signed.Number v) e = absurd (given-not-refused (sym e))
+same-signed (signed.Refused m) (signed.Refused n) e = ap signed.Refused (refused-injective e)
+
+pub same-length : (r t : LengthAnswer) → lengthOutcome r ≡ lengthOutcome t → r ≡ t
+same-length (length.Length v) (length.Length w) e = ap length.Length (given-injective e)
+same-length (length.Length v) (length.Refused n) e = absurd (given-not-refused e)
+same-length (length.Refused n) (length.Length v) e = absurd (given-not-refused (sym e))
+same-length (length.Refused m) (length.Refused n) e = ap length.Refused (refused-injective e)
+
+-- ---- readers
+
+pub one-read-decimal : (most n : ℕ) (s : List ℕ) (r t : NumberAnswer) → ReadsDecimal most n s r → ReadsDecimal most n s t → r ≡ t
+one-read-decimal most n s r t p q = same-number r t (p ∙ sym q)
+
+pub one-read-u32 : (n : ℕ) (s : List ℕ) (r t : NumberAnswer) → ReadsUnsigned n s r → ReadsUnsigned n s t → r ≡ t
+one-read-u32 n s r t p q = same-number r t (p ∙ sym q)
+
+pub one-read-i32 : (n : ℕ) (s : List ℕ) (r t : SignedAnswer) → ReadsSigned n s r → ReadsSigned n s t → r ≡ t
+one-read-i32 n s r t p q = same-signed r t (p ∙ sym q)
+
+-- ---- writers: the answer and the bytes, whatever the text
+
+pub one-written : (d e f xs : List ℕ) (o p : Outcome ℕ) → Written d e xs o → Written d f xs p → (o ≡ p) × (e ≡ f)
+one-written d e f xs o p v w = (v .0 ∙ sym (w .0), v .1 ∙ sym (w .1))
+
+pub one-write : (d e f xs : List ℕ) (r t : LengthAnswer) → Written d e xs (lengthOutcome r) → Written d f xs (lengthOutcome t) → (r ≡ t) × (e ≡ f)
+one-write d e f xs r t v w = (same-length r t (v .0 ∙ sym (w .0)), v .1 ∙ sym (w .1))
+
+pub one-wrote : (d e f : List ℕ) (at : ℕ) (xs : List ℕ) (r t : ℕ) → Wrote d e at xs r → Wrote d f at xs t → (e ≡ f) × (r ≡ t)
+one-wrote d e f at xs r t v w = (v .0 ∙ sym (w .0), v .1 ∙ sym (w .1))
+
+-- ---- lengths
+
+pub one-decimal-length : (n r t : ℕ) → TakesDecimal n r → TakesDecimal n t → r ≡ t
+one-decimal-length n r t p q = p ∙ sym q
+
+pub one-padded-length : (width n r t : ℕ) → TakesPadded width n r → TakesPadded width n t → r ≡ t
+one-padded-length width n r t p q = p ∙ sym q
+
+pub one-signed-length : (z : ℤ) (r t : ℕ) → TakesSigned z r → TakesSigned z t → r ≡ t
+one-signed-length z r t p q = p ∙ sym q

@@ -1,0 +1,103 @@
+-- Laws of writers at the start of lent bytes: there is room and all is written, or there is not and nothing is.
+-- Assumes nothing.
+use Prim.Native.Nat.{ℕ, _+_, _-_, _≤_, _<_, max}
+use mathlib.Core.Path.{_≡_, refl, sym, ap, _∙_}
+use mathlib.Core.List.{List, _++_}
+use mathlib.Core.Logic.{_⊎_, inl, inr}
+use mathlib.Core.Bool.{Bool, true, false}
+use native.Mathlib.Omega.{arith}
+use lib.ListN.{length, take, replicate, length-append, length-replicate}
+use lib.IntN.{ℤ, natAbs}
+use lib.Dec.{leb}
+use mir.Syntax.{w32}
+use mir.Val.{SFits}
+use borrow.Author.Tests.{le-leb, lt-leb}
+use Rattle.paper.specs.Outcome.{given, refused, Numbered}
+use Rattle.paper.proofs.Outcomes.{given-injective, given-not-refused, unless-numbered}
+use Rattle.text.specs.Writing.{digits, places, decimalText, paddedText, isNegative, signText, signedText, rightAligned, put, Wrote, writtenLength, writtenBytes, Written}
+use Rattle.text.proofs.Digits.{lt-or-le, places-some, length-decimal, length-padded, decimal-within}
+use Rattle.text.proofs.Putting.{put-text, wrote-then}
+use Rattle.text.proofs.Signs.{abs-most}
+
+pub written-fits : (d e xs : List ℕ) (r : ℕ) → Wrote d e 0 xs r → length xs ≤ length d → Written d e xs (given r)
+unfolding writtenLength writtenBytes
+written-fits d e xs r w h = rw (le-leb (length xs) (length d) h) (ap given (omega (arith, w .1)), w .0)
+
+pub written-refused : (d xs : List ℕ) → length d < length xs → Written d d xs (refused 16)
+unfolding writtenLength writtenBytes
+written-refused d xs h = rw (lt-leb (length xs) (length d) h) (refl, refl)
+
+pub written-numbered : (d xs : List ℕ) → Numbered (writtenLength d xs)
+unfolding writtenLength
+written-numbered d xs = unless-numbered (leb (length xs) (length d)) 16 (given (length xs)) (omega arith) (omega arith)
+
+-- what was written can be read at the start of the bytes
+pub written-text : (d e xs : List ℕ) (k : ℕ) → Written d e xs (given k) → take k e ≡ xs
+written-text d e xs k w = go (lt-or-le (length d) (length xs))
+  where
+    go : (length d < length xs) ⊎ (length xs ≤ length d) → take k e ≡ xs
+    go (inr h) =
+        let p = written-fits d (put d 0 xs) xs (length xs) (refl, omega arith) h in
+        let k-is : k ≡ length xs = given-injective (w .0 ∙ sym (p .0)) in
+        let e-is : e ≡ put d 0 xs = w .1 ∙ sym (p .1) in
+        rw (k-is, e-is) (put-text d 0 xs (omega arith))
+    go (inl h) = absurd (given-not-refused (w .0 ∙ sym (written-refused d xs h .0)))
+
+-- ---- the same text by another name
+
+pub wrote-is : (d e : List ℕ) (at r : ℕ) (xs ys : List ℕ) → Wrote d e at xs r → xs ≡ ys → Wrote d e at ys r
+wrote-is d e at r xs ys w q = rw (← q) w
+
+pub decimal-digits : (n k : ℕ) → k ≡ length (decimalText n) → digits k n ≡ decimalText n
+unfolding decimalText
+decimal-digits n k e = ap (λ (j : ℕ). digits j n) (e ∙ length-decimal n)
+
+pub padded-digits : (width n k : ℕ) → k ≡ length (paddedText width n) → digits k n ≡ paddedText width n
+unfolding paddedText
+padded-digits width n k e = ap (λ (j : ℕ). digits j n) (e ∙ length-padded width n)
+
+pub padded-one : (n : ℕ) → paddedText 1 n ≡ decimalText n
+unfolding decimalText paddedText
+padded-one n = let e : max 1 (places n) ≡ places n = omega (arith, places-some n) in rw (e)
+
+-- ---- a sign and a decimal: g says whether the number is negative, m is its magnitude
+
+pub length-signed : (z : ℤ) → length (signedText z) ≡ length (signText (isNegative z)) + length (decimalText (natAbs z))
+unfolding signedText
+length-signed z = length-append (signText (isNegative z)) (decimalText (natAbs z))
+
+sign-within : (g : Bool) → length (signText g) ≤ 1
+sign-within true = omega arith
+sign-within false = omega arith
+
+-- no text of a signed 32-bit number is longer than 11 bytes
+pub signed-within : (z : ℤ) → SFits w32 z → length (signedText z) ≤ 11
+signed-within z f = omega (arith, length-signed z, sign-within (isNegative z), decimal-within 10 (natAbs z) (omega arith) (omega (arith, abs-most z f)))
+
+pub signed-length-is : (z : ℤ) (g : Bool) (m k : ℕ) → g ≡ isNegative z → m ≡ natAbs z → k ≡ length (decimalText m) → length (signText g) + k ≡ length (signedText z)
+signed-length-is z g m k p q e = rw (e, p, q) (sym (length-signed z))
+
+pub sign-room : (z : ℤ) (g : Bool) (at room : ℕ) → g ≡ isNegative z → at + length (signedText z) ≤ room → at + length (signText g) ≤ room
+sign-room z g at room p h = rw (p) (omega (arith, length-signed z))
+
+pub decimal-room : (z : ℤ) (g : Bool) (at b m room : ℕ) → g ≡ isNegative z → m ≡ natAbs z → b ≡ at + length (signText g) → at + length (signedText z) ≤ room → b + length (decimalText m) ≤ room
+decimal-room z g at b m room p q r h = rw (r, p, q) (omega (arith, length-signed z))
+
+signed-text : (z : ℤ) → signText (isNegative z) ++ decimalText (natAbs z) ≡ signedText z
+unfolding signedText
+signed-text z = refl
+
+pub signed-wrote : (d e f : List ℕ) (at b r : ℕ) (z : ℤ) (g : Bool) (m : ℕ) → g ≡ isNegative z → m ≡ natAbs z → Wrote d e at (signText g) b → Wrote e f b (decimalText m) r → at + length (signedText z) ≤ length d → Wrote d f at (signedText z) r
+signed-wrote d e f at b r z g m p q v w h =
+    wrote-is d f at r _ _ (wrote-then d e f at b r (signText (isNegative z)) (decimalText (natAbs z)) (rw (p) at v) (rw (q) at w) (omega (arith, length-signed z))) (signed-text z)
+
+-- ---- blanks and then the text
+
+pub length-aligned : (width : ℕ) (xs : List ℕ) → length (rightAligned width xs) ≡ max width (length xs)
+unfolding rightAligned
+length-aligned width xs = omega (arith, length-append (replicate (width - length xs) 32) xs, length-replicate {A = ℕ} (width - length xs) 32)
+
+pub aligned-wrote : (d e f : List ℕ) (at b r width : ℕ) (xs : List ℕ) → Wrote d e at (replicate (width - length xs) 32) b → Wrote e f b xs r → at + length (rightAligned width xs) ≤ length d → Wrote d f at (rightAligned width xs) r
+unfolding rightAligned
+aligned-wrote d e f at b r width xs v w h =
+    wrote-then d e f at b r (replicate (width - length xs) 32) xs v w (omega (arith, length-append (replicate (width - length xs) 32) xs))

@@ -1,0 +1,250 @@
+// Numbers in and out of text, as Rust's `parse` and `Display` of integers, over bytes.
+ghost use mathlib.Core.Path.{_≡_};
+ghost use Prim.Native.Nat.{_+_, _≤_};
+ghost use lib.ListN.{length, replicate};
+ghost use lib.IntN.{pos, negℤ, natAbs};
+ghost use Rattle.text.specs.Reading.{belowZero, fromZero, signedOutcome, ReadsDecimal, ReadsUnsigned, ReadsSigned};
+ghost use Rattle.text.specs.Writing.{digits, decimalText, paddedText, signText, signedText, isNegative, Wrote, Written, lengthOutcome, TakesDecimal, TakesPadded, TakesSigned};
+
+pub enum NumberAnswer {
+    Number(u32),
+    Refused(u32),
+}
+
+pub enum SignedAnswer {
+    Number(i32),
+    Refused(u32),
+}
+
+pub enum LengthAnswer {
+    Length(usize),
+    Refused(u32),
+}
+
+// A decimal without a sign. It stops once the number is past `most`, so no length of text can make it wrap.
+pub fn read_decimal(s: &[u8], most: u32, refusal: u32) -> NumberAnswer
+    ensures { λ r. ⌜ ReadsDecimal most refusal (now (s .entry)) r ⌝ }
+{
+    if s.len() == 0 {
+        return NumberAnswer::Refused(refusal);
+    }
+    let limit = most as u64;
+    let mut v: u64 = 0;
+    let mut k: usize = 0;
+    while k < s.len() {
+        let b = s[k];
+        if b < b'0' {
+            return NumberAnswer::Refused(refusal);
+        }
+        if b'9' < b {
+            return NumberAnswer::Refused(refusal);
+        }
+        v = v * 10 + (b - b'0') as u64;
+        if limit < v {
+            return NumberAnswer::Refused(refusal);
+        }
+        k += 1;
+    }
+    NumberAnswer::Number(v as u32)
+}
+
+// What `parse` of a u32 reads.
+pub fn read_u32(s: &[u8], refusal: u32) -> NumberAnswer
+    ensures { λ r. ⌜ ReadsUnsigned refusal (now (s .entry)) r ⌝ }
+{
+    if s.len() == 0 {
+        return NumberAnswer::Refused(refusal);
+    }
+    if s[0] == b'+' {
+        return read_decimal(&s[1..], 4294967295, refusal);
+    }
+    read_decimal(s, 4294967295, refusal)
+}
+
+fn negated(v: u32) -> i32
+    requires { ⌜ v ≤ 2147483648 ⌝ }
+    ensures { λ r. ⌜ r ≡ negℤ (pos v) ⌝ }
+{
+    (0 - v as i64) as i32
+}
+
+fn read_below_zero(s: &[u8], refusal: u32) -> SignedAnswer
+    ensures { λ r. ⌜ signedOutcome r ≡ belowZero refusal (now (s .entry)) ⌝ }
+{
+    match read_decimal(s, 2147483648, refusal) {
+        NumberAnswer::Number(v) => SignedAnswer::Number(negated(v)),
+        NumberAnswer::Refused(n) => SignedAnswer::Refused(n),
+    }
+}
+
+fn read_from_zero(s: &[u8], refusal: u32) -> SignedAnswer
+    ensures { λ r. ⌜ signedOutcome r ≡ fromZero refusal (now (s .entry)) ⌝ }
+{
+    match read_decimal(s, 2147483647, refusal) {
+        NumberAnswer::Number(v) => SignedAnswer::Number(v as i32),
+        NumberAnswer::Refused(n) => SignedAnswer::Refused(n),
+    }
+}
+
+// What `parse` of an i32 reads.
+pub fn read_i32(s: &[u8], refusal: u32) -> SignedAnswer
+    ensures { λ r. ⌜ ReadsSigned refusal (now (s .entry)) r ⌝ }
+{
+    if s.len() == 0 {
+        return SignedAnswer::Refused(refusal);
+    }
+    let first = s[0];
+    if first == b'-' {
+        return read_below_zero(&s[1..], refusal);
+    }
+    if first == b'+' {
+        return read_from_zero(&s[1..], refusal);
+    }
+    read_from_zero(s, refusal)
+}
+
+// How many bytes the shortest decimal of n takes.
+pub fn decimal_length(n: u64) -> usize
+    ensures { λ r. ⌜ TakesDecimal n r ⌝ }
+{
+    let mut k: usize = 1;
+    let mut rest = n;
+    while 10 <= rest {
+        rest = rest / 10;
+        k += 1;
+    }
+    k
+}
+
+// How many bytes the decimal of n takes with leading zeros to at least `width` digits.
+pub fn padded_length(n: u64, width: usize) -> usize
+    ensures { λ r. ⌜ TakesPadded width n r ⌝ }
+{
+    let k = decimal_length(n);
+    if k < width { width } else { k }
+}
+
+fn magnitude(n: i32) -> u64
+    ensures { λ r. ⌜ r ≡ natAbs n ⌝ }
+{
+    if n < 0 {
+        (0 - n as i64) as u64
+    } else {
+        n as u64
+    }
+}
+
+// How many bytes the text of n takes.
+pub fn signed_length(n: i32) -> usize
+    ensures { λ r. ⌜ TakesSigned n r ⌝ }
+{
+    let k = decimal_length(magnitude(n));
+    if n < 0 { k + 1 } else { k }
+}
+
+// Inner: the caller has seen that there is room. The last `count` decimal digits of n.
+pub fn put_digits(n: u64, count: usize, out: &mut [u8], at: usize) -> usize
+    requires { ⌜ at + count ≤ length (now out) ⌝ }
+    ensures { λ r. ⌜ Wrote (now (out .entry)) (now (out .exit)) at (digits count n) r ⌝ }
+{
+    let mut i = count;
+    let mut rest = n;
+    while 0 < i {
+        i -= 1;
+        out[at + i] = b'0' + (rest % 10) as u8;
+        rest = rest / 10;
+    }
+    at + count
+}
+
+// Inner: the caller has seen that there is room. One byte, `count` times.
+pub fn put_run(b: u8, count: usize, out: &mut [u8], at: usize) -> usize
+    requires { ⌜ at + count ≤ length (now out) ⌝ }
+    ensures { λ r. ⌜ Wrote (now (out .entry)) (now (out .exit)) at (replicate count b) r ⌝ }
+{
+    let mut i = count;
+    while 0 < i {
+        i -= 1;
+        out[at + i] = b;
+    }
+    at + count
+}
+
+// Inner: the caller has seen that there is room. The bytes of s.
+pub fn put_bytes(s: &[u8], out: &mut [u8], at: usize) -> usize
+    requires { ⌜ at + length (now s) ≤ length (now out) ⌝ }
+    ensures { λ r. ⌜ Wrote (now (out .entry)) (now (out .exit)) at (now (s .entry)) r ⌝ }
+{
+    let mut i = s.len();
+    while 0 < i {
+        i -= 1;
+        out[at + i] = s[i];
+    }
+    at + s.len()
+}
+
+// Inner: the caller has seen that there is room. '-' where the number is negative.
+pub fn put_sign(negative: bool, out: &mut [u8], at: usize) -> usize
+    requires { ⌜ at + length (signText negative) ≤ length (now out) ⌝ }
+    ensures { λ r. ⌜ Wrote (now (out .entry)) (now (out .exit)) at (signText negative) r ⌝ }
+{
+    if negative {
+        out[at] = b'-';
+        at + 1
+    } else {
+        at
+    }
+}
+
+// Inner: the caller has seen that there is room. The shortest decimal of n.
+pub fn put_decimal(n: u64, out: &mut [u8], at: usize) -> usize
+    requires { ⌜ at + length (decimalText n) ≤ length (now out) ⌝ }
+    ensures { λ r. ⌜ Wrote (now (out .entry)) (now (out .exit)) at (decimalText n) r ⌝ }
+{
+    put_digits(n, decimal_length(n), out, at)
+}
+
+// Inner: the caller has seen that there is room. The decimal of n with leading zeros to at least `width` digits.
+pub fn put_padded(n: u64, width: usize, out: &mut [u8], at: usize) -> usize
+    requires { ⌜ at + length (paddedText width n) ≤ length (now out) ⌝ }
+    ensures { λ r. ⌜ Wrote (now (out .entry)) (now (out .exit)) at (paddedText width n) r ⌝ }
+{
+    put_digits(n, padded_length(n, width), out, at)
+}
+
+// Inner: the caller has seen that there is room. The sign and the shortest decimal of n.
+pub fn put_signed(n: i32, out: &mut [u8], at: usize) -> usize
+    requires { ⌜ at + length (signedText n) ≤ length (now out) ⌝ }
+    ensures { λ r. ⌜ Wrote (now (out .entry)) (now (out .exit)) at (signedText n) r ⌝ }
+{
+    let first = put_sign(n < 0, out, at);
+    put_decimal(magnitude(n), out, first)
+}
+
+// What `Display` of a u32 writes.
+pub fn write_u32(n: u32, out: &mut [u8]) -> LengthAnswer
+    ensures { λ r. ⌜ Written (now (out .entry)) (now (out .exit)) (decimalText n) (lengthOutcome r) ⌝ }
+{
+    write_padded(n, 1, out)
+}
+
+// What `Display` of an i32 writes.
+pub fn write_i32(n: i32, out: &mut [u8]) -> LengthAnswer
+    ensures { λ r. ⌜ Written (now (out .entry)) (now (out .exit)) (signedText n) (lengthOutcome r) ⌝ }
+{
+    if out.len() < signed_length(n) {
+        return LengthAnswer::Refused(paper::TOO_FEW_PLACES);
+    }
+    LengthAnswer::Length(put_signed(n, out, 0))
+}
+
+// What `Display` with a width such as `{:02}` writes.
+pub fn write_padded(n: u32, width: usize, out: &mut [u8]) -> LengthAnswer
+    ensures { λ r. ⌜ Written (now (out .entry)) (now (out .exit)) (paddedText width n) (lengthOutcome r) ⌝ }
+{
+    let k = padded_length(n as u64, width);
+    if out.len() < k {
+        return LengthAnswer::Refused(paper::TOO_FEW_PLACES);
+    }
+    LengthAnswer::Length(put_digits(n as u64, k, out, 0))
+}

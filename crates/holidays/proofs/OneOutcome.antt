@@ -1,16 +1,22 @@
 -- No second outcome satisfies what an entry point promises: each answer is told by its outcome.
 -- Assumes nothing.
-use Prim.Native.Nat.{ℕ}
+use Prim.Native.Nat.{ℕ, zero, suc, _+_, _-_}
 use mathlib.Core.Path.{_≡_, sym, ap, _∙_}
-use mathlib.Core.Bool.{Bool}
 use mathlib.Core.List.{List}
-use Rattle.paper.proofs.Outcomes.{given-injective, refused-injective, given-not-refused}
+use mathlib.Core.Bool.{Bool, true, false}
+use native.Mathlib.Omega.{arith}
+use Rattle.paper.specs.Outcome.{Outcome, Numbered}
+use Rattle.paper.proofs.Outcomes.{given-injective, refused-injective, given-not-refused, unless-numbered, then-numbered}
+use Rattle.calendar.specs.Dates.{isDay}
 use Rattle.calendar.specs.declared.Day.{Day}
 use Rattle.calendar.specs.declared.DayAnswer.{DayAnswer}
-use Rattle.holidays.specs.Answers.{businessOutcome, TablePromise, BusinessPromise, NextPromise, PreviousPromise, LaterPromise, EarlierPromise}
 use Rattle.calendar.proofs.OneOutcome.{same-day-answer}
+use Rattle.holidays.specs.Answers.{judged, businessOutcome, TablePromise, BusinessPromise, NextPromise, PreviousPromise, LaterPromise, EarlierPromise}
+use Rattle.holidays.specs.Table.{isTable}
+use Rattle.holidays.specs.Business.{on, isBusiness, firstOf, nextFrom, lastOf, prevFrom, repeated}
 use Rattle.holidays.specs.declared.BusinessAnswer.{BusinessAnswer}
 use Rattle.holidays.specs.declared.BusinessAnswer.the-variants as business-answer
+use Rattle.holidays.proofs.Days.{choose}
 
 pub same-business-answer : (r s : BusinessAnswer) → businessOutcome r ≡ businessOutcome s → r ≡ s
 same-business-answer (business-answer.Business a) (business-answer.Business b) q = ap business-answer.Business (given-injective q)
@@ -38,3 +44,34 @@ module _ (t : List ℕ) where
 
       pub one-earlier : (k : ℕ) → EarlierPromise d k t r → EarlierPromise d k t s → r ≡ s
       one-earlier k p q = same-day-answer r s (p ∙ sym q)
+
+-- every refusal has its number
+chosen-numbered : (b : Bool) (d : Day) (o : Outcome Day) → Numbered o → Numbered (choose b d o)
+chosen-numbered true d o h = omega arith
+chosen-numbered false d o h = h
+
+first-numbered : (left : ℕ) (t : List ℕ) (n : ℕ) → Numbered (firstOf left t n)
+unfolding firstOf
+first-numbered zero t n = omega arith
+first-numbered (suc left) t n = chosen-numbered (isBusiness t n) (on n) (firstOf left t (n + 1)) (first-numbered left t (n + 1))
+
+pub next-from-numbered : (t : List ℕ) (n : ℕ) → Numbered (nextFrom t n)
+unfolding nextFrom
+next-from-numbered t n = first-numbered (3652059 - n) t (n + 1)
+
+last-numbered : (t : List ℕ) (n : ℕ) → Numbered (lastOf t n)
+unfolding lastOf
+last-numbered t zero = omega arith
+last-numbered t (suc n) = chosen-numbered (isBusiness t (suc n)) (on (suc n)) (lastOf t n) (last-numbered t n)
+
+pub prev-from-numbered : (t : List ℕ) (n : ℕ) → Numbered (prevFrom t n)
+unfolding prevFrom
+prev-from-numbered t n = last-numbered t (n - 1)
+
+pub repeated-numbered : (step : ℕ → Outcome Day) (k n : ℕ) → ((m : ℕ) → Numbered (step m)) → Numbered (repeated step k n)
+unfolding repeated
+repeated-numbered step zero n h = omega arith
+repeated-numbered step (suc k) n h = then-numbered (step n) (λ e. repeated step k (e .0)) (h n) (λ e. repeated-numbered step k (e .0) h)
+
+pub judged-numbered : {A : Type 0} (d : Day) (t : List ℕ) (rest : Outcome A) → Numbered rest → Numbered (judged d t rest)
+judged-numbered d t rest h = unless-numbered (isDay d) 1 _ (omega arith) (unless-numbered (isTable t) 13 rest (omega arith) h)

@@ -1,0 +1,3 @@
+pub mod Adjusting
+pub mod OneOutcome
+pub mod Examples

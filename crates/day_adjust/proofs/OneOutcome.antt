@@ -1,0 +1,53 @@
+-- No second answer satisfies the entry point's promise; and a refusal's number is never 0.
+-- Assumes nothing.
+use Prim.Native.Nat.{ℕ}
+use mathlib.Core.Path.{_≡_, sym, _∙_}
+use mathlib.Core.Bool.{Bool, true, false}
+use mathlib.Core.List.{List}
+use native.Mathlib.Omega.{arith}
+use lib.Dec.{eqb}
+use Rattle.paper.specs.Outcome.{Outcome, given, Numbered, pick}
+use Rattle.paper.proofs.Outcomes.{unless-numbered, then-numbered}
+use Rattle.calendar.specs.Dates.{isDate, dayNumber}
+use Rattle.calendar.specs.Answers.{dateOf}
+use Rattle.calendar.specs.declared.Date.{Date}
+use Rattle.calendar.specs.declared.DateAnswer.{DateAnswer}
+use Rattle.calendar.proofs.OneOutcome.{same-date-answer, date-of-numbered}
+use Rattle.holidays.specs.Table.{isTable}
+use Rattle.holidays.specs.Business.{isBusiness, nextFrom, prevFrom}
+use Rattle.day_adjust.specs.Adjustment.{nextDate, prevDate, modifiedDate, movedDate, adjusted, adjustDate, AdjustPromise}
+use Rattle.day_adjust.specs.declared.DayAdjust.{DayAdjust}
+use Rattle.day_adjust.specs.declared.DayAdjust.the-variants as rule
+use Rattle.holidays.proofs.OneOutcome.{next-from-numbered, prev-from-numbered}
+
+pub one-adjust : (r : DayAdjust) (t : Date) (table : List ℕ) (a b : DateAnswer) → AdjustPromise r t table a → AdjustPromise r t table b → a ≡ b
+one-adjust r t table a b p q = same-date-answer a b (p ∙ sym q)
+
+-- every refusal has its number
+next-numbered : (table : List ℕ) (n : ℕ) → Numbered (nextDate table n)
+unfolding nextDate
+next-numbered table n = then-numbered (nextFrom table n) dateOf (next-from-numbered table n) date-of-numbered
+
+prev-numbered : (table : List ℕ) (n : ℕ) → Numbered (prevDate table n)
+unfolding prevDate
+prev-numbered table n = then-numbered (prevFrom table n) dateOf (prev-from-numbered table n) date-of-numbered
+
+picked-numbered : {A : Type 0} (b : Bool) (o p : Outcome A) → Numbered o → Numbered p → Numbered (pick b o p)
+picked-numbered true o p h k = h
+picked-numbered false o p h k = k
+
+moved-numbered : (r : DayAdjust) (t : Date) (n : ℕ) (table : List ℕ) → Numbered (movedDate r t n table)
+unfolding modifiedDate
+moved-numbered rule.None t n table = omega arith
+moved-numbered rule.Following t n table = next-numbered table n
+moved-numbered rule.Preceding t n table = prev-numbered table n
+moved-numbered rule.Modified t n table =
+    then-numbered (nextDate table n) (λ u. pick (eqb (u .month) (t .month)) (given u) (prevDate table n)) (next-numbered table n)
+    (λ u. picked-numbered (eqb (u .month) (t .month)) (given u) (prevDate table n) (omega arith) (prev-numbered table n))
+
+pub adjust-numbered : (r : DayAdjust) (t : Date) (table : List ℕ) → Numbered (adjustDate r t table)
+unfolding adjustDate adjusted
+adjust-numbered r t table =
+    unless-numbered (isDate t) 1 _ (omega arith)
+    (unless-numbered (isTable table) 13 _ (omega arith)
+    (picked-numbered (isBusiness table (dayNumber t)) (given t) (movedDate r t (dayNumber t) table) (omega arith) (moved-numbered r t (dayNumber t) table)))

@@ -1,0 +1,3 @@
+pub mod Multiplying
+pub mod Zeros
+pub mod OneOutcome

@@ -1,0 +1,184 @@
+-- A walk ends: each turn leads nearer to an end of the calendar, so the steps allowed are never used up.
+-- Assumes nothing.
+use Prim.Native.Nat.{ℕ, zero, suc, _+_, _-_, _^_, _≤_, _<_}
+use mathlib.Core.Path.{_≡_, refl, sym, _∙_, ap, subst}
+use mathlib.Core.Bool.{Bool, true, false}
+use native.Mathlib.Omega.{arith}
+use lib.IntN.{ℤ, pos, negsuc, negℤ, _-ℤ_}
+use lib.Signed.{ltZ}
+use mir.Syntax.{w32}
+use mir.Val.{SFits, toZ, ofZ}
+use mir.Facts.{toZ-ofZ}
+use borrow.Author.Tests.{ltb-true}
+use Rattle.paper.specs.Outcome.{Outcome, given, refused, andThen, pick}
+use Rattle.paper.proofs.Outcomes.{given-injective, given-not-refused, then-given}
+use Rattle.rounding.proofs.Gap.{gap-fits, gap-is}
+use Rattle.calendar.specs.Dates.{isDate, isBefore, dayNumber}
+use Rattle.calendar.specs.declared.Date.{Date}
+use Rattle.calendar.proofs.Dates.{date-yes, date-is, number-to}
+use Rattle.time_period.specs.Steps.{absent}
+use Rattle.icma.specs.Walk.{step, negated, walk, from, turnOn, walkOn, turnBack, walkBack, baseFrom}
+use Rattle.time_period.specs.declared.TimePeriod.{TimePeriod}
+use Rattle.icma.specs.declared.Walked.{Walked}
+use Rattle.time_period.proofs.Steps.{step-leads}
+
+-- what a turn leads to: a date of the calendar, nearer to the end by φ, and at most one more in the count
+pub record Turned (φ : Date → ℕ) (w v : Walked) : Type 0 where
+  pub dated : isDate (v .at) ≡ true
+  pub nearer : φ (v .at) < φ (w .at)
+  pub counted : v .count ≤ w .count + 1
+
+-- where a walk ends: a date of the calendar, with no more to go, and no more counted than steps were made
+pub record Ended (φ : Date → ℕ) (more : Date → Bool) (w v : Walked) : Type 0 where
+  pub dated : isDate (v .at) ≡ true
+  pub there : more (v .at) ≡ false
+  pub counted : v .count + φ (v .at) ≤ w .count + φ (w .at)
+
+module _ (more : Date → Bool) (turn : Walked → Outcome Walked) where
+  pub walk-more : (k : ℕ) (w : Walked) → more (w .at) ≡ true → walk (suc k) more turn w ≡ andThen (turn w) (walk k more turn)
+  unfolding walk
+  walk-more k w h = ap (λ (b : Bool). elim b as (λ x. Outcome Walked) [ true ↦ andThen (turn w) (walk k more turn) | false ↦ given w ]) h
+
+  pub walk-there : (k : ℕ) (w : Walked) → more (w .at) ≡ false → walk (suc k) more turn w ≡ given w
+  unfolding walk
+  walk-there k w h = ap (λ (b : Bool). elim b as (λ x. Outcome Walked) [ true ↦ andThen (turn w) (walk k more turn) | false ↦ given w ]) h
+
+  module _ (φ : Date → ℕ) (leads : (w v : Walked) → isDate (w .at) ≡ true → turn w ≡ given v → Turned φ w v) where
+    -- with steps enough, how many are allowed does not matter
+    pub enough : (j k : ℕ) (w : Walked) → isDate (w .at) ≡ true → φ (w .at) < j → φ (w .at) < k → walk j more turn w ≡ walk k more turn w
+    enough zero k w d h l = absurd (omega arith)
+    enough (suc j) zero w d h l = absurd (omega arith)
+    enough (suc j) (suc k) w d h l = by (more (w .at)) refl (turn w) refl (λ v e. enough j k v)
+      where
+        by : (b : Bool) → more (w .at) ≡ b → (o : Outcome Walked) → turn w ≡ o → ((v : Walked) → turn w ≡ given v → isDate (v .at) ≡ true → φ (v .at) < j → φ (v .at) < k → walk j more turn v ≡ walk k more turn v) → walk (suc j) more turn w ≡ walk (suc k) more turn w
+        by false e o q r = walk-there j w e ∙ sym (walk-there k w e)
+        by true e (refused n) q r =
+            walk-more j w e ∙ ap (λ (x : Outcome Walked). andThen x (walk j more turn)) q
+            ∙ sym (walk-more k w e ∙ ap (λ (x : Outcome Walked). andThen x (walk k more turn)) q)
+        by true e (given v) q r =
+            let t = leads w v d q in
+            walk-more j w e ∙ ap (λ (x : Outcome Walked). andThen x (walk j more turn)) q
+            ∙ r v q (t .dated) (omega (arith, t .nearer)) (omega (arith, t .nearer))
+            ∙ sym (walk-more k w e ∙ ap (λ (x : Outcome Walked). andThen x (walk k more turn)) q)
+
+    -- a turn leaves the same walk to be made
+    pub walk-turn : (k : ℕ) (w v : Walked) → isDate (w .at) ≡ true → φ (w .at) < k → more (w .at) ≡ true → turn w ≡ given v → walk k more turn v ≡ walk k more turn w
+    walk-turn zero w v d h e q = absurd (omega arith)
+    walk-turn (suc k) w v d h e q =
+        let t = leads w v d q in
+        enough (suc k) k v (t .dated) (omega (arith, t .nearer)) (omega (arith, t .nearer))
+        ∙ sym (walk-more k w e ∙ ap (λ (x : Outcome Walked). andThen x (walk k more turn)) q)
+
+    pub walk-refused : (k n : ℕ) (w : Walked) → φ (w .at) < k → more (w .at) ≡ true → turn w ≡ refused n → refused n ≡ walk k more turn w
+    walk-refused zero n w h e q = absurd (omega arith)
+    walk-refused (suc k) n w h e q = sym (walk-more k w e ∙ ap (λ (x : Outcome Walked). andThen x (walk k more turn)) q)
+
+    pub walk-done : (k : ℕ) (w : Walked) → φ (w .at) < k → more (w .at) ≡ false → given w ≡ walk k more turn w
+    walk-done zero w h e = absurd (omega arith)
+    walk-done (suc k) w h e = sym (walk-there k w e)
+
+    pub walk-ends : (k : ℕ) (w v : Walked) → isDate (w .at) ≡ true → walk k more turn w ≡ given v → Ended φ more w v
+    unfolding walk
+    walk-ends zero w v d e = absurd (given-not-refused (sym e))
+    walk-ends (suc k) w v d e = by (more (w .at)) refl (walk-ends k)
+      where
+        by : (b : Bool) → more (w .at) ≡ b → ((x y : Walked) → isDate (x .at) ≡ true → walk k more turn x ≡ given y → Ended φ more x y) → Ended φ more w v
+        by false h r =
+            let q : w ≡ v = given-injective (sym (walk-there k w h) ∙ e) in
+            record { dated = ap (λ (x : Walked). isDate (x .at)) (sym q) ∙ d; there = ap (λ (x : Walked). more (x .at)) (sym q) ∙ h; counted = rw q (omega arith) }
+        by true h r =
+            let g = then-given (turn w) (walk k more turn) v (sym (walk-more k w h) ∙ e) in
+            let t = leads w (g .0) d (g .1) in
+            let s = r (g .0) v (t .dated) (g .2) in
+            record { dated = s .dated; there = s .there; counted = omega (arith, s .counted, t .nearer, t .counted) }
+
+-- one turn of each walk
+picked-more : (b : Bool) (n : ℕ) → pick b n (n + 1) ≤ n + 1
+picked-more true n = omega arith
+picked-more false n = omega arith
+
+-- how far it is to the end of the calendar, and to its beginning
+pub ahead : Date → ℕ
+ahead t = 3652059 - dayNumber t
+
+pub behind : Date → ℕ
+behind t = dayNumber t
+
+pub ahead-is : (t : Date) → ahead t ≡ 3652059 - dayNumber t
+unfolding ahead
+ahead-is t = refl
+
+pub behind-is : (t : Date) → behind t ≡ dayNumber t
+unfolding behind
+behind-is t = refl
+
+pub turn-on-leads : (p : TimePeriod) (limit : Date) → ltZ (pos 0) (p .num) ≡ true → (w v : Walked) → isDate (w .at) ≡ true → turnOn p limit w ≡ given v → Turned ahead w v
+unfolding turnOn ahead
+turn-on-leads p limit h w v d e =
+    let g = then-given (step p (w .at)) (λ u. given (record { at = u; count = pick (isBefore limit u) (w .count) (w .count + 1) })) v e in
+    let s = step-leads p absent (w .at) (g .0) d (g .1) in
+    let q : _≡_ {A = Walked} (record { at = g .0; count = pick (isBefore limit (g .0)) (w .count) (w .count + 1) }) v = given-injective (g .2) in
+    let l = s .later h in
+    let n = number-to (g .0) (s .dated) in
+    rw (sym q) (record { dated = date-is (g .0) (s .dated); nearer = omega arith; counted = picked-more (isBefore limit (g .0)) (w .count) })
+
+pub turn-back-leads : (q : TimePeriod) (limit : Date) → ltZ (q .num) (pos 0) ≡ true → (w v : Walked) → isDate (w .at) ≡ true → turnBack q limit w ≡ given v → Turned behind w v
+unfolding turnBack behind
+turn-back-leads p limit h w v d e =
+    let g = then-given (step p (w .at)) (λ u. given (record { at = u; count = pick (isBefore u limit) (w .count) (w .count + 1) })) v e in
+    let s = step-leads p absent (w .at) (g .0) d (g .1) in
+    let q : _≡_ {A = Walked} (record { at = g .0; count = pick (isBefore (g .0) limit) (w .count) (w .count + 1) }) v = given-injective (g .2) in
+    rw (sym q) (record { dated = date-is (g .0) (s .dated); nearer = s .earlier h; counted = picked-more (isBefore (g .0) limit) (w .count) })
+
+-- where each walk ends
+pub record End (w : Walked) : Type 0 where
+  pub dated : isDate (w .at) ≡ true
+  pub few : w .count ≤ 3652059
+
+pub on-ends : (p : TimePeriod) (limit t : Date) (w : Walked) → isDate t ≡ true → ltZ (pos 0) (p .num) ≡ true → walkOn p limit t ≡ given w → End w × (isBefore (w .at) limit ≡ false)
+unfolding walkOn
+on-ends p limit t w d h e =
+    let s = walk-ends (λ u. isBefore u limit) (turnOn p limit) ahead (turn-on-leads p limit h) 3652060 (from t) w d e in
+    (record { dated = s .dated; few = omega (arith, s .counted, ahead-is t) }, s .there)
+
+pub back-ends : (q : TimePeriod) (limit t : Date) (w : Walked) → isDate t ≡ true → ltZ (q .num) (pos 0) ≡ true → walkBack q limit t ≡ given w → End w × (isBefore limit (w .at) ≡ false)
+unfolding walkBack
+back-ends q limit t w d h e =
+    let s = walk-ends (λ u. isBefore limit u) (turnBack q limit) behind (turn-back-leads q limit h) 3652060 (from t) w d e in
+    (record { dated = s .dated; few = omega (arith, s .counted, behind-is t, number-to t (date-yes t d)) }, s .there)
+
+-- one step: a date of the calendar, later by a period and earlier by the negated one
+pub step-later : (p : TimePeriod) (t u : Date) → isDate t ≡ true → ltZ (pos 0) (p .num) ≡ true → step p t ≡ given u → (isDate u ≡ true) × (dayNumber t < dayNumber u)
+step-later p t u d h e = let s = step-leads p absent t u d e in (date-is u (s .dated), s .later h)
+
+pub step-earlier : (q : TimePeriod) (t u : Date) → isDate t ≡ true → ltZ (q .num) (pos 0) ≡ true → step q t ≡ given u → (isDate u ≡ true) × (dayNumber u < dayNumber t)
+step-earlier q t u d h e =
+    let s = step-leads q absent t u d e in
+    (date-is u (s .dated), s .earlier h)
+
+-- a number above zero, negated, is below
+pub negated-below : (n : ℤ) → ltZ (pos 0) n ≡ true → ltZ (negℤ n) (pos 0) ≡ true
+negated-below (pos zero) h = absurd (omega (arith, ltb-true 0 0 h))
+negated-below (pos (suc n)) h = refl
+negated-below (negsuc n) h = let x : _≡_ {A = ℕ} 0 1 = cc h in absurd (omega arith)
+
+-- the difference of two dates' serial days is kept whole in 32 bits
+pub gap-kept : (t u : Date) (z : ℤ) → isDate t ≡ true → isDate u ≡ true → z ≡ pos (dayNumber t) -ℤ pos (dayNumber u) → toZ w32 (ofZ w32 z) ≡ pos (dayNumber t) -ℤ pos (dayNumber u)
+gap-kept t u z d e q =
+    let h : dayNumber t < 2 ^ 31 = omega (arith, number-to t (date-yes t d)) in
+    let k : dayNumber u < 2 ^ 31 = omega (arith, number-to u (date-yes u e)) in
+    let f = gap-fits (dayNumber t) (dayNumber u) h k in
+    ap (λ (x : ℤ). toZ w32 (ofZ w32 x)) q ∙ toZ-ofZ (subst (SFits w32) (sym (toZ-ofZ f) ∙ gap-is (dayNumber t) (dayNumber u) h k) f)
+
+-- a number above zero is not the least
+pub not-the-least : (z : ℤ) → SFits w32 z → ltZ (pos 0) z ≡ true → ofZ w32 z ≡ 2147483648 → ⊥
+not-the-least (pos n) f h e = omega (arith, f .sfits)
+not-the-least (negsuc n) f h e = let x : _≡_ {A = ℕ} 0 1 = cc h in omega arith
+
+-- the base is a date of the calendar
+pub base-ends : (p : TimePeriod) (start end roll : Date) (w : Walked) → isDate roll ≡ true → ltZ (pos 0) (p .num) ≡ true → baseFrom p (negated p) start end roll ≡ given w → isDate (w .at) ≡ true
+unfolding baseFrom
+base-ends p start end roll w d h e =
+    let g = then-given (walkOn p start roll) (λ a. walkBack (negated p) end (a .at)) w e in
+    let a = on-ends p start roll (g .0) d h (g .1) in
+    back-ends (negated p) end (g .0 .at) w (a .0 .dated) (negated-below (p .num) h) (g .2) .0 .dated

@@ -1,0 +1,268 @@
+// The walk of Act/Act ICMA: from the roll date, period by period, to the whole periods and the broken parts between two dates.
+ghost use mathlib.Core.Path.{_≡_};
+ghost use mathlib.Core.Bool.{true};
+ghost use Prim.Native.Nat.{_-_, _<_, _≤_};
+ghost use lib.IntN.{pos, _-ℤ_};
+ghost use lib.Signed.{ltZ};
+ghost use Rattle.calendar.specs.Dates.{isDate, dayNumber};
+ghost use Rattle.icma.specs.Walk.{walkOutcome, brokenOutcome, partsOutcome, turnOn, walkOn, turnBack, walkBack, baseFrom, shortParts, firstPart, lastPart, toLast, toEnd, toFirst, longParts, partsFrom, icmaParts};
+use calendar::Date;
+use calendar::DateAnswer;
+use time_period::TimePeriod;
+
+// Where a walk stands, and how many of the dates it reached count.
+pub struct Walked {
+    pub at: Date,
+    pub count: u32,
+}
+
+pub enum WalkAnswer {
+    Walked(Walked),
+    Refused(u32),
+}
+
+// A period that the start or the end cuts: some days over the period's length. The days may be negative.
+pub enum Broken {
+    Nothing,
+    Part(i32, u32),
+}
+
+pub enum BrokenAnswer {
+    Broken(Broken),
+    Refused(u32),
+}
+
+// Shorter than a period: the days, and the period's length. Or the broken parts at both ends, and the whole periods.
+pub enum Parts {
+    Short(u32, u32),
+    Long(Broken, Broken, u32),
+}
+
+pub enum PartsAnswer {
+    Parts(Parts),
+    Refused(u32),
+}
+
+// One step on; the date reached counts unless it is past the limit.
+fn turn_on(p: TimePeriod, w: Walked, limit: Date) -> WalkAnswer
+    requires { ⌜ (isDate (w .at) ≡ true) × (w .count < 3652060) ⌝ }
+    ensures { λ r. ⌜ walkOutcome r ≡ turnOn p limit w ⌝ }
+{
+    let n = w.count;
+    match time_period::step(p, w.at) {
+        DateAnswer::Date(u) => {
+            if calendar::is_before(limit, u) {
+                return WalkAnswer::Walked(Walked { at: u, count: n });
+            }
+            WalkAnswer::Walked(Walked {
+                at: u,
+                count: n + 1,
+            })
+        }
+        DateAnswer::Refused(k) => WalkAnswer::Refused(k),
+    }
+}
+
+// One step back, by the negated period; the date reached counts unless it is before the limit.
+fn turn_back(q: TimePeriod, w: Walked, limit: Date) -> WalkAnswer
+    requires { ⌜ (isDate (w .at) ≡ true) × (w .count < 3652060) ⌝ }
+    ensures { λ r. ⌜ walkOutcome r ≡ turnBack q limit w ⌝ }
+{
+    let n = w.count;
+    match time_period::step(q, w.at) {
+        DateAnswer::Date(u) => {
+            if calendar::is_before(u, limit) {
+                return WalkAnswer::Walked(Walked { at: u, count: n });
+            }
+            WalkAnswer::Walked(Walked {
+                at: u,
+                count: n + 1,
+            })
+        }
+        DateAnswer::Refused(k) => WalkAnswer::Refused(k),
+    }
+}
+
+// On until not before the limit.
+fn walk_on(p: TimePeriod, from: Date, limit: Date) -> WalkAnswer
+    requires { ⌜ (isDate from ≡ true) × (ltZ (pos 0) (p .num) ≡ true) ⌝ }
+    ensures { λ r. ⌜ walkOutcome r ≡ walkOn p limit from ⌝ }
+{
+    let mut w = Walked { at: from, count: 0 };
+    while calendar::is_before(w.at, limit) {
+        match turn_on(p, w, limit) {
+            WalkAnswer::Walked(v) => {
+                w = v;
+            }
+            WalkAnswer::Refused(k) => return WalkAnswer::Refused(k),
+        }
+    }
+    WalkAnswer::Walked(w)
+}
+
+// Back until not after the limit.
+fn walk_back(q: TimePeriod, from: Date, limit: Date) -> WalkAnswer
+    requires { ⌜ (isDate from ≡ true) × (ltZ (q .num) (pos 0) ≡ true) ⌝ }
+    ensures { λ r. ⌜ walkOutcome r ≡ walkBack q limit from ⌝ }
+{
+    let mut w = Walked { at: from, count: 0 };
+    while calendar::is_before(limit, w.at) {
+        match turn_back(q, w, limit) {
+            WalkAnswer::Walked(v) => {
+                w = v;
+            }
+            WalkAnswer::Refused(k) => return WalkAnswer::Refused(k),
+        }
+    }
+    WalkAnswer::Walked(w)
+}
+
+// From the roll date: on while before start, then back while after end.
+fn base_from(p: TimePeriod, q: TimePeriod, start: Date, end: Date, roll: Date) -> WalkAnswer
+    requires { ⌜ (isDate roll ≡ true) × (ltZ (pos 0) (p .num) ≡ true) × (ltZ (q .num) (pos 0) ≡ true) ⌝ }
+    ensures { λ r. ⌜ walkOutcome r ≡ baseFrom p q start end roll ⌝ }
+{
+    match walk_on(p, roll, start) {
+        WalkAnswer::Walked(a) => walk_back(q, a.at, end),
+        WalkAnswer::Refused(k) => WalkAnswer::Refused(k),
+    }
+}
+
+// The difference of two serial days, which may be negative.
+fn gap(later: Date, earlier: Date) -> i32
+    requires { ⌜ (isDate later ≡ true) × (isDate earlier ≡ true) ⌝ }
+    ensures { λ r. ⌜ r ≡ pos (dayNumber later) -ℤ pos (dayNumber earlier) ⌝ }
+{
+    calendar::number_of(later) as i32 - calendar::number_of(earlier) as i32
+}
+
+// The days from a date to one that is not before it.
+fn length(from: Date, to: Date) -> u32
+    requires { ⌜ (isDate from ≡ true) × (isDate to ≡ true) × (dayNumber from ≤ dayNumber to) ⌝ }
+    ensures { λ r. ⌜ r ≡ dayNumber to - dayNumber from ⌝ }
+{
+    calendar::number_of(to) - calendar::number_of(from)
+}
+
+fn short_parts(p: TimePeriod, start: Date, end: Date, base: Date) -> PartsAnswer
+    requires { ⌜ (isDate start ≡ true) × (isDate end ≡ true) × (dayNumber start ≤ dayNumber end) × (isDate base ≡ true) × (ltZ (pos 0) (p .num) ≡ true) ⌝ }
+    ensures { λ r. ⌜ partsOutcome r ≡ shortParts p start end base ⌝ }
+{
+    match time_period::step(p, base) {
+        DateAnswer::Date(u) => {
+            let days = length(start, end);
+            PartsAnswer::Parts(Parts::Short(days, length(base, u)))
+        }
+        DateAnswer::Refused(k) => PartsAnswer::Refused(k),
+    }
+}
+
+fn first_part(p: TimePeriod, start: Date, b: Date) -> BrokenAnswer
+    requires { ⌜ (isDate start ≡ true) × (isDate b ≡ true) × (ltZ (pos 0) (p .num) ≡ true) ⌝ }
+    ensures { λ r. ⌜ brokenOutcome r ≡ firstPart p start b ⌝ }
+{
+    if !calendar::is_before(b, start) {
+        return BrokenAnswer::Broken(Broken::Nothing);
+    }
+    match time_period::step(p, b) {
+        DateAnswer::Date(u) => {
+            let days = gap(u, start);
+            BrokenAnswer::Broken(Broken::Part(days, length(b, u)))
+        }
+        DateAnswer::Refused(k) => BrokenAnswer::Refused(k),
+    }
+}
+
+fn last_part(q: TimePeriod, end: Date, e: Date) -> BrokenAnswer
+    requires { ⌜ (isDate end ≡ true) × (isDate e ≡ true) × (ltZ (q .num) (pos 0) ≡ true) ⌝ }
+    ensures { λ r. ⌜ brokenOutcome r ≡ lastPart q end e ⌝ }
+{
+    if !calendar::is_before(end, e) {
+        return BrokenAnswer::Broken(Broken::Nothing);
+    }
+    match time_period::step(q, e) {
+        DateAnswer::Date(s) => {
+            let days = gap(end, s);
+            BrokenAnswer::Broken(Broken::Part(days, length(s, e)))
+        }
+        DateAnswer::Refused(k) => BrokenAnswer::Refused(k),
+    }
+}
+
+fn to_last(q: TimePeriod, end: Date, first: Broken, count: u32, e: Walked) -> PartsAnswer
+    requires { ⌜ (isDate end ≡ true) × (isDate (e .at) ≡ true) × (ltZ (q .num) (pos 0) ≡ true) × (count ≤ 3652060) × (e .count ≤ 3652060) ⌝ }
+    ensures { λ r. ⌜ partsOutcome r ≡ toLast q end first count e ⌝ }
+{
+    match last_part(q, end, e.at) {
+        BrokenAnswer::Broken(last) => PartsAnswer::Parts(Parts::Long(first, last, count + e.count)),
+        BrokenAnswer::Refused(k) => PartsAnswer::Refused(k),
+    }
+}
+
+fn to_end(
+    p: TimePeriod,
+    q: TimePeriod,
+    end: Date,
+    base: Date,
+    count: u32,
+    first: Broken,
+) -> PartsAnswer
+    requires { ⌜ (isDate end ≡ true) × (isDate base ≡ true) × (ltZ (pos 0) (p .num) ≡ true) × (ltZ (q .num) (pos 0) ≡ true) × (count ≤ 3652060) ⌝ }
+    ensures { λ r. ⌜ partsOutcome r ≡ toEnd p q end base count first ⌝ }
+{
+    match walk_on(p, base, end) {
+        WalkAnswer::Walked(e) => to_last(q, end, first, count, e),
+        WalkAnswer::Refused(k) => PartsAnswer::Refused(k),
+    }
+}
+
+fn to_first(
+    p: TimePeriod,
+    q: TimePeriod,
+    start: Date,
+    end: Date,
+    base: Date,
+    b: Walked,
+) -> PartsAnswer
+    requires { ⌜ (isDate start ≡ true) × (isDate end ≡ true) × (isDate base ≡ true) × (isDate (b .at) ≡ true) × (ltZ (pos 0) (p .num) ≡ true) × (ltZ (q .num) (pos 0) ≡ true) × (b .count ≤ 3652060) ⌝ }
+    ensures { λ r. ⌜ partsOutcome r ≡ toFirst p q start end base b ⌝ }
+{
+    match first_part(p, start, b.at) {
+        BrokenAnswer::Broken(first) => to_end(p, q, end, base, b.count, first),
+        BrokenAnswer::Refused(k) => PartsAnswer::Refused(k),
+    }
+}
+
+fn long_parts(p: TimePeriod, q: TimePeriod, start: Date, end: Date, base: Date) -> PartsAnswer
+    requires { ⌜ (isDate start ≡ true) × (isDate end ≡ true) × (isDate base ≡ true) × (ltZ (pos 0) (p .num) ≡ true) × (ltZ (q .num) (pos 0) ≡ true) ⌝ }
+    ensures { λ r. ⌜ partsOutcome r ≡ longParts p q start end base ⌝ }
+{
+    match walk_back(q, base, start) {
+        WalkAnswer::Walked(b) => to_first(p, q, start, end, base, b),
+        WalkAnswer::Refused(k) => PartsAnswer::Refused(k),
+    }
+}
+
+fn parts_from(p: TimePeriod, q: TimePeriod, start: Date, end: Date, b: Walked) -> PartsAnswer
+    requires { ⌜ (isDate start ≡ true) × (isDate end ≡ true) × (dayNumber start ≤ dayNumber end) × (isDate (b .at) ≡ true) × (ltZ (pos 0) (p .num) ≡ true) × (ltZ (q .num) (pos 0) ≡ true) ⌝ }
+    ensures { λ r. ⌜ partsOutcome r ≡ partsFrom p q start end b ⌝ }
+{
+    if calendar::is_before(b.at, start) {
+        return short_parts(p, start, end, b.at);
+    }
+    long_parts(p, q, start, end, b.at)
+}
+
+// Inner: the parts between two dates already judged, of a period already seen to be at least 1. Day counts follow by division.
+pub fn icma_parts(p: TimePeriod, start: Date, end: Date, roll: Date) -> PartsAnswer
+    requires { ⌜ (isDate start ≡ true) × (isDate end ≡ true) × (dayNumber start ≤ dayNumber end) × (isDate roll ≡ true) × (ltZ (pos 0) (p .num) ≡ true) ⌝ }
+    ensures { λ r. ⌜ partsOutcome r ≡ icmaParts p start end roll ⌝ }
+{
+    let n = p.num;
+    let unit = p.unit;
+    let q = TimePeriod { num: -n, unit };
+    match base_from(p, q, start, end, roll) {
+        WalkAnswer::Walked(b) => parts_from(p, q, start, end, b),
+        WalkAnswer::Refused(k) => PartsAnswer::Refused(k),
+    }
+}

@@ -1,0 +1,113 @@
+-- No second answer satisfies an entry point's promise; and a refusal's number is never 0.
+-- Assumes nothing.
+use Prim.Native.Nat.{ℕ, _-_, _<_}
+use mathlib.Core.Path.{_≡_, refl, sym, _∙_, ap}
+use mathlib.Core.Bool.{Bool, true, false, not}
+use mathlib.Core.List.{List}
+use native.Mathlib.Omega.{arith}
+use lib.Dec.{leb, eqb}
+use lib.ListN.{length, take, getD}
+use Rattle.paper.specs.Outcome.{Outcome, given, refused, Numbered, pick, unless}
+use Rattle.paper.proofs.Outcomes.{given-injective, refused-injective, given-not-refused, unless-numbered, then-numbered}
+use Rattle.text.specs.Reading.{signedNumber}
+use Rattle.text.specs.Writing.{Written, lengthOutcome}
+use Rattle.text.specs.declared.LengthAnswer.{LengthAnswer}
+use Rattle.text.proofs.OneOutcome.{one-write}
+use Rattle.text.proofs.Decimals.{signed-numbered}
+use Rattle.calendar.specs.Dates.{isDate}
+use Rattle.calendar.specs.declared.Date.{Date}
+use Rattle.calendar.specs.declared.DateAnswer.{DateAnswer}
+use Rattle.calendar.proofs.OneOutcome.{same-date-answer}
+use Rattle.time_period.specs.Periods.{periodOutcome, frequencyOutcome, unitOf, numberPart, periodOf, periodText, frequencyOf, ReadPromise, FrequencyPromise}
+use Rattle.time_period.specs.Steps.{Holidays, stepped, isLeast, inverseOf, served, accepted, judgedStep, addTo, subFrom, InversePromise, AddPromise, SubPromise}
+use Rattle.time_period.specs.declared.TimePeriodUnit.the-variants.{Daily, BusinessDaily, Weekly, Monthly, Annual}
+use Rattle.time_period.specs.declared.TimePeriod.{TimePeriod}
+use Rattle.time_period.specs.declared.PeriodAnswer.{PeriodAnswer}
+use Rattle.time_period.specs.declared.PeriodAnswer.the-variants as period-answer
+use Rattle.time_period.specs.declared.FrequencyAnswer.{FrequencyAnswer}
+use Rattle.time_period.specs.declared.FrequencyAnswer.the-variants as frequency-answer
+use Rattle.time_period.proofs.Frequencies.{frequent}
+use Rattle.time_period.proofs.Steps.{step-refuses}
+
+pub same-period-answer : (r s : PeriodAnswer) → periodOutcome r ≡ periodOutcome s → r ≡ s
+same-period-answer (period-answer.Period a) (period-answer.Period b) e = ap period-answer.Period (given-injective e)
+same-period-answer (period-answer.Period a) (period-answer.Refused n) e = absurd (given-not-refused e)
+same-period-answer (period-answer.Refused m) (period-answer.Period b) e = absurd (given-not-refused (sym e))
+same-period-answer (period-answer.Refused m) (period-answer.Refused n) e = ap period-answer.Refused (refused-injective e)
+
+pub same-frequency-answer : (r s : FrequencyAnswer) → frequencyOutcome r ≡ frequencyOutcome s → r ≡ s
+same-frequency-answer (frequency-answer.Frequency a) (frequency-answer.Frequency b) e = ap frequency-answer.Frequency (given-injective e)
+same-frequency-answer (frequency-answer.Frequency a) (frequency-answer.Refused n) e = absurd (given-not-refused e)
+same-frequency-answer (frequency-answer.Refused m) (frequency-answer.Frequency b) e = absurd (given-not-refused (sym e))
+same-frequency-answer (frequency-answer.Refused m) (frequency-answer.Refused n) e = ap frequency-answer.Refused (refused-injective e)
+
+pub one-read : (t : List ℕ) (r s : PeriodAnswer) → ReadPromise t r → ReadPromise t s → r ≡ s
+one-read t r s p q = same-period-answer r s (p ∙ sym q)
+
+-- the answer and the bytes
+pub one-written : (p : TimePeriod) (d e f : List ℕ) (r s : LengthAnswer) → Written d e (periodText p) (lengthOutcome r) → Written d f (periodText p) (lengthOutcome s) → (r ≡ s) × (e ≡ f)
+one-written p d e f r s v w = one-write d e f (periodText p) r s v w
+
+module _ (p : TimePeriod) where
+  pub one-frequency : (r s : FrequencyAnswer) → FrequencyPromise p r → FrequencyPromise p s → r ≡ s
+  one-frequency r s v w = same-frequency-answer r s (v ∙ sym w)
+
+  pub one-inverse : (r s : PeriodAnswer) → InversePromise p r → InversePromise p s → r ≡ s
+  one-inverse r s v w = same-period-answer r s (v ∙ sym w)
+
+  -- with a table and without
+  module _ (h : Holidays) (t : Date) (r s : DateAnswer) where
+    pub one-add : AddPromise p h t r → AddPromise p h t s → r ≡ s
+    one-add v w = same-date-answer r s (v ∙ sym w)
+
+    pub one-sub : SubPromise p h t r → SubPromise p h t s → r ≡ s
+    one-sub v w = same-date-answer r s (v ∙ sym w)
+
+-- every refusal has its number
+unit-numbered : (b : ℕ) → Numbered (unitOf b)
+unfolding unitOf
+unit-numbered b = by (eqb b 68) (eqb b 66) (eqb b 87) (eqb b 77) (eqb b 89)
+  where
+    by : (d w m y z : Bool) → Numbered (pick d (given Daily) (pick w (given BusinessDaily) (pick m (given Weekly) (pick y (given Monthly) (pick z (given Annual) (refused 3))))))
+    by true w m y z = omega arith
+    by false true m y z = omega arith
+    by false false true y z = omega arith
+    by false false false true z = omega arith
+    by false false false false true = omega arith
+    by false false false false false = omega arith
+
+pub read-numbered : (s : List ℕ) → Numbered (periodOf s)
+unfolding periodOf numberPart
+read-numbered s =
+    unless-numbered (leb 2 (length s)) 2 _ (omega arith)
+    (then-numbered (unitOf (getD s (length s - 1) 0)) (numberPart (take (length s - 1) s)) (unit-numbered _)
+    (λ u. then-numbered (signedNumber 4 (take (length s - 1) s)) (λ n. given (record { num = n; unit = u })) (signed-numbered 4 _ (omega arith)) (λ n. omega arith)))
+
+-- what is refused with one number only
+numbered-by : {A : Type 0} (n : ℕ) → 0 < n → (o : Outcome A) → ((m : ℕ) → o ≡ refused m → m ≡ n) → Numbered o
+numbered-by n h (given a) k = omega arith
+numbered-by n h (refused m) k = let e = k m refl in omega arith
+
+pub frequency-numbered : (p : TimePeriod) → Numbered (frequencyOf p)
+frequency-numbered p = numbered-by 5 (omega arith) (frequencyOf p) (λ k e. frequent p .otherwise k e .0)
+
+pub inverse-numbered : (p : TimePeriod) → Numbered (inverseOf p)
+unfolding inverseOf
+inverse-numbered p = unless-numbered (not (isLeast (p .num))) 4 _ (omega arith) (omega arith)
+
+judged-numbered : (p : TimePeriod) (h : Holidays) (t : Date) → Numbered (judgedStep p h t)
+judged-numbered p h t = by (served (p .unit) h) refl
+  where
+    by : (b : Bool) → served (p .unit) h ≡ b → Numbered (unless b 12 (unless (accepted h) 13 (stepped p h t)))
+    by true e = unless-numbered (accepted h) 13 _ (omega arith) (numbered-by 1 (omega arith) (stepped p h t) (step-refuses p h t e))
+    by false e = omega arith
+
+pub add-numbered : (p : TimePeriod) (h : Holidays) (t : Date) → Numbered (addTo p h t)
+unfolding addTo
+add-numbered p h t = unless-numbered (isDate t) 1 _ (omega arith) (judged-numbered p h t)
+
+pub sub-numbered : (p : TimePeriod) (h : Holidays) (t : Date) → Numbered (subFrom p h t)
+unfolding subFrom
+sub-numbered p h t =
+    unless-numbered (isDate t) 1 _ (omega arith)
+    (then-numbered (inverseOf p) (λ q. judgedStep q h t) (inverse-numbered p) (λ q. judged-numbered q h t))

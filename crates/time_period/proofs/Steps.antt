@@ -1,0 +1,289 @@
+-- Where a step leads: to a date of the calendar, later for a number above zero and earlier for one below; and what each unit keeps.
+-- Assumes nothing.
+use Prim.Native.Nat.{ℕ, suc, _≤_, _<_}
+use mathlib.Core.Path.{_≡_, refl, sym, _∙_, ap, subst}
+use mathlib.Core.Bool.{Bool, true, false}
+use mathlib.Core.List.{List}
+use native.Mathlib.Omega.{arith}
+use lib.Dec.{leb}
+use lib.IntN.{ℤ, pos, negsuc, negℤ, natAbs, _+ℤ_, _*ℤ_}
+use lib.Signed.{ltZ}
+use Rattle.paper.specs.Outcome.{Outcome, given, refused, unless, andThen}
+use Rattle.paper.proofs.Outcomes.{given-injective, given-not-refused, refused-injective, unless-given, then-given}
+use Rattle.calendar.specs.Dates.{isDate, isDay, dayNumber, theDate, monthIndex, monthDate}
+use Rattle.calendar.specs.Answers.{dateOf}
+use Rattle.calendar.specs.declared.Day.{Day}
+use Rattle.calendar.specs.declared.Date.{Date}
+use Rattle.calendar.proofs.Dates.{IsDate, date-yes, day-yes, day-is, number-from, number-to, date-found, the-date-is, number-found}
+use Rattle.calendar.proofs.Order.{month-order}
+use Rattle.date_step.specs.Steps.{landing, monthsLater, addMonths, existingDate, yearsLater, addYears, daysLater, addDays}
+use Rattle.holidays.specs.Business.{on, isBusiness}
+use Rattle.time_period.specs.Steps.{Holidays, absent, table, daysStep, weeksStep, monthsStep, yearsStep, businessDay, businessStep, unitStep, stepped, isLeast, inverseOf, served, accepted, addTo, subFrom}
+use Rattle.time_period.specs.declared.TimePeriodUnit.{TimePeriodUnit}
+use Rattle.time_period.specs.declared.TimePeriodUnit.the-variants.{Daily, BusinessDaily, Weekly, Monthly, Annual}
+use Rattle.time_period.specs.declared.TimePeriod.{TimePeriod}
+use Rattle.date_step.proofs.Steps.{MonthsOn, months-on, YearsOn, years-on, DaysOn, days-on}
+use Rattle.holidays.proofs.Steps.{no-step}
+use Rattle.holidays.proofs.Days.{later-gives, earlier-gives, later-refuses, earlier-refuses}
+use Rattle.time_period.proofs.Signs.{seven-on, seven-back, negative-back, above, below, moved-on, moved-back}
+
+-- ---- what each unit keeps
+
+module _ (n : ℤ) (t u : Date) (d : isDate t ≡ true) where
+  pub days-step : daysStep n t ≡ given u → DaysOn t n u
+  unfolding daysStep addDays
+  days-step e = days-on t n u (rw d e)
+
+  pub weeks-step : weeksStep n t ≡ given u → DaysOn t (pos 7 *ℤ n) u
+  unfolding weeksStep addDays
+  weeks-step e = days-on t (pos 7 *ℤ n) u (rw d e)
+
+  -- the month's number moves by n, and the day is cut to the month's last
+  pub months-step : monthsStep n t ≡ given u → MonthsOn t n u
+  unfolding monthsStep addMonths
+  months-step e = months-on t n u (rw d e)
+
+  -- the year moves by n
+  pub years-step : yearsStep n t ≡ given u → YearsOn t n u
+  unfolding yearsStep addYears
+  years-step e = years-on t n u (rw d e)
+
+-- n business days on: the day that the search over the table finds
+pub record BusinessDaysOn (h : List ℕ) (t : Date) (n : ℤ) (u : Date) : Type 0 where
+  pub dated : IsDate u
+  pub reached : businessDay h n (dayNumber t) ≡ given (on (dayNumber u))
+  pub business : 1 ≤ natAbs n → isBusiness h (dayNumber u) ≡ true
+
+-- the date that a serial day has
+day-dated : (d : Day) (u : Date) → dateOf d ≡ given u → IsDate u × (d ≡ on (dayNumber u))
+unfolding dateOf
+day-dated d u e =
+    let x = unless-given (isDay d) 1 (given (theDate (d .0))) u e in
+    let k = day-yes d (x .0) in
+    let q : theDate (d .0) ≡ u = given-injective (x .1) in
+    (subst IsDate q (the-date-is (d .0) (k .0) (k .1)), ap on (sym (number-found (d .0) (k .0) (k .1)) ∙ ap dayNumber q))
+
+module _ (h : List ℕ) where
+  landed-business : (d : ℕ) (n : ℤ) (e : Day) → businessDay h n d ≡ given e → 1 ≤ natAbs n → isBusiness h (e .0) ≡ true
+  landed-business d (pos k) e g l = later-gives h k d e l g .business
+  landed-business d (negsuc k) e g l = earlier-gives h (suc k) d e l g .business
+
+  pub business-step : (n : ℤ) (t u : Date) → businessStep n (table h) t ≡ given u → BusinessDaysOn h t n u
+  unfolding businessStep
+  business-step n t u e =
+      let m = then-given (businessDay h n (dayNumber t)) dateOf u e in
+      let k = day-dated (m .0) u (m .2) in
+      let r : businessDay h n (dayNumber t) ≡ given (on (dayNumber u)) = m .1 ∙ ap given (k .1) in
+      record { dated = k .0; reached = r; business = landed-business (dayNumber t) n (on (dayNumber u)) r }
+
+  -- none of them: the date itself, a business day or not
+  pub no-business-days : (t : Date) → isDate t ≡ true → businessStep (pos 0) (table h) t ≡ given t
+  unfolding businessStep dateOf
+  no-business-days t d =
+      let i = date-yes t d in
+      rw (no-step _ (dayNumber t), day-is (on (dayNumber t)) (number-from t i) (number-to t i)) (ap given (date-found t i))
+
+-- ---- later and earlier
+
+pub record LaterDate (t u : Date) : Type 0 where
+  pub dated : IsDate u
+  pub later : dayNumber t < dayNumber u
+
+pub record EarlierDate (t u : Date) : Type 0 where
+  pub dated : IsDate u
+  pub earlier : dayNumber u < dayNumber t
+
+module _ (n : ℤ) (t u : Date) where
+  days-later-date : ltZ (pos 0) n ≡ true → DaysOn t n u → LaterDate t u
+  days-later-date s k = record { dated = k .dated; later = moved-on _ _ n s (k .number) }
+
+  days-earlier-date : ltZ n (pos 0) ≡ true → DaysOn t n u → EarlierDate t u
+  days-earlier-date s k = record { dated = k .dated; earlier = moved-back _ _ n s (k .number) }
+
+  months-later-date : ltZ (pos 0) n ≡ true → MonthsOn t n u → LaterDate t u
+  months-later-date s k = record { dated = k .dated; later = month-order t u (k .from) (k .dated) (moved-on _ _ n s (k .index)) }
+
+  months-earlier-date : ltZ n (pos 0) ≡ true → MonthsOn t n u → EarlierDate t u
+  months-earlier-date s k = record { dated = k .dated; earlier = month-order u t (k .dated) (k .from) (moved-back _ _ n s (k .index)) }
+
+  years-later-date : ltZ (pos 0) n ≡ true → YearsOn t n u → LaterDate t u
+  years-later-date s k =
+      let l = moved-on _ _ n s (k .year) in
+      record { dated = k .dated; later = month-order t u (k .from) (k .dated) (omega (arith, k .month, k .from .year-from)) }
+
+  years-earlier-date : ltZ n (pos 0) ≡ true → YearsOn t n u → EarlierDate t u
+  years-earlier-date s k =
+      let l = moved-back _ _ n s (k .year) in
+      record { dated = k .dated; earlier = month-order u t (k .dated) (k .from) (omega (arith, k .month, k .dated .year-from)) }
+
+business-later-day : (h : List ℕ) (d e : ℕ) (n : ℤ) → ltZ (pos 0) n ≡ true → businessDay h n d ≡ given (on e) → d < e
+business-later-day h d e n s g =
+    let a = above n s in
+    later-gives h (a .0) d (on e) (a .2) (ap (λ (z : ℤ). businessDay h z d) (sym (a .1)) ∙ g) .later
+
+business-earlier-day : (h : List ℕ) (d e : ℕ) (n : ℤ) → ltZ n (pos 0) ≡ true → businessDay h n d ≡ given (on e) → e < d
+business-earlier-day h d e n s g =
+    let a = below n s in
+    earlier-gives h (suc (a .0)) d (on e) (omega arith) (ap (λ (z : ℤ). businessDay h z d) (sym (a .1)) ∙ g) .earlier
+
+module _ (n : ℤ) (t u : Date) where
+  business-later-date : (h : Holidays) → ltZ (pos 0) n ≡ true → businessStep n h t ≡ given u → LaterDate t u
+  unfolding businessStep
+  business-later-date absent s e = absurd (given-not-refused (sym e))
+  business-later-date (table h) s e =
+      let k = business-step h n t u e in
+      record { dated = k .dated; later = business-later-day h _ _ n s (k .reached) }
+
+  business-earlier-date : (h : Holidays) → ltZ n (pos 0) ≡ true → businessStep n h t ≡ given u → EarlierDate t u
+  unfolding businessStep
+  business-earlier-date absent s e = absurd (given-not-refused (sym e))
+  business-earlier-date (table h) s e =
+      let k = business-step h n t u e in
+      record { dated = k .dated; earlier = business-earlier-day h _ _ n s (k .reached) }
+
+  unit-later : (v : TimePeriodUnit) (h : Holidays) → isDate t ≡ true → ltZ (pos 0) n ≡ true → unitStep v n h t ≡ given u → LaterDate t u
+  unit-later Daily h d s e = days-later-date n t u s (days-step n t u d e)
+  unit-later BusinessDaily h d s e = business-later-date h s e
+  unit-later Weekly h d s e = days-later-date (pos 7 *ℤ n) t u (seven-on n s) (weeks-step n t u d e)
+  unit-later Monthly h d s e = months-later-date n t u s (months-step n t u d e)
+  unit-later Annual h d s e = years-later-date n t u s (years-step n t u d e)
+
+  unit-earlier : (v : TimePeriodUnit) (h : Holidays) → isDate t ≡ true → ltZ n (pos 0) ≡ true → unitStep v n h t ≡ given u → EarlierDate t u
+  unit-earlier Daily h d s e = days-earlier-date n t u s (days-step n t u d e)
+  unit-earlier BusinessDaily h d s e = business-earlier-date h s e
+  unit-earlier Weekly h d s e = days-earlier-date (pos 7 *ℤ n) t u (seven-back n s) (weeks-step n t u d e)
+  unit-earlier Monthly h d s e = months-earlier-date n t u s (months-step n t u d e)
+  unit-earlier Annual h d s e = years-earlier-date n t u s (years-step n t u d e)
+
+  unit-dated : (v : TimePeriodUnit) (h : Holidays) → isDate t ≡ true → unitStep v n h t ≡ given u → IsDate u
+  unfolding businessStep
+  unit-dated Daily h d e = days-step n t u d e .dated
+  unit-dated BusinessDaily absent d e = absurd (given-not-refused (sym e))
+  unit-dated BusinessDaily (table h) d e = business-step h n t u e .dated
+  unit-dated Weekly h d e = weeks-step n t u d e .dated
+  unit-dated Monthly h d e = months-step n t u d e .dated
+  unit-dated Annual h d e = years-step n t u d e .dated
+
+-- what a step from a date of the calendar leads to, whatever the unit and the table; and by the unit
+pub record Stepped (p : TimePeriod) (h : Holidays) (t u : Date) : Type 0 where
+  pub dated : IsDate u
+  pub later : ltZ (pos 0) (p .num) ≡ true → dayNumber t < dayNumber u
+  pub earlier : ltZ (p .num) (pos 0) ≡ true → dayNumber u < dayNumber t
+  pub days : p .unit ≡ Daily → DaysOn t (p .num) u
+  pub weeks : p .unit ≡ Weekly → DaysOn t (pos 7 *ℤ p .num) u
+  pub months : p .unit ≡ Monthly → MonthsOn t (p .num) u
+  pub years : p .unit ≡ Annual → YearsOn t (p .num) u
+  pub business : p .unit ≡ BusinessDaily → (l : List ℕ) → h ≡ table l → BusinessDaysOn l t (p .num) u
+
+module _ (p : TimePeriod) (h : Holidays) (t u : Date) (d : isDate t ≡ true) (e : stepped p h t ≡ given u) where
+  -- the step that a unit names
+  of-unit : (v : TimePeriodUnit) → p .unit ≡ v → unitStep v (p .num) h t ≡ given u
+  of-unit v q = ap (λ (w : TimePeriodUnit). unitStep w (p .num) h t) (sym q) ∙ e
+
+  pub step-leads : Stepped p h t u
+  step-leads =
+      record {
+        dated = unit-dated (p .num) t u (p .unit) h d e;
+        later = λ s. unit-later (p .num) t u (p .unit) h d s e .later;
+        earlier = λ s. unit-earlier (p .num) t u (p .unit) h d s e .earlier;
+        days = λ q. days-step (p .num) t u d (of-unit Daily q);
+        weeks = λ q. weeks-step (p .num) t u d (of-unit Weekly q);
+        months = λ q. months-step (p .num) t u d (of-unit Monthly q);
+        years = λ q. years-step (p .num) t u d (of-unit Annual q);
+        business = λ q l r. business-step l (p .num) t u (ap (λ (g : Holidays). businessStep (p .num) g t) (sym r) ∙ of-unit BusinessDaily q);
+      }
+
+-- ---- refused
+
+-- nothing but 1 is refused
+abbrev pub OnlyOne : {A : Type 0} → Outcome A → Type 0
+OnlyOne o = (m : ℕ) → o ≡ refused m → m ≡ 1
+
+only-then : {A B : Type 0} (o : Outcome A) (f : A → Outcome B) → OnlyOne o → ((a : A) → OnlyOne (f a)) → OnlyOne (andThen o f)
+only-then (given a) f k l m e = l a m e
+only-then (refused j) f k l m e = k m (ap refused (refused-injective e))
+
+only-unless : {A : Type 0} (b : Bool) (a : A) → OnlyOne (unless b 1 (given a))
+only-unless true a m e = absurd (given-not-refused e)
+only-unless false a m e = sym (refused-injective e)
+
+only-landing : (last : ℕ) (z : ℤ) → OnlyOne (landing last z)
+unfolding landing
+only-landing last (pos k) m e = only-unless (leb k last) k m e
+only-landing last (negsuc k) m e = sym (refused-injective e)
+
+only-date : (d : Day) → OnlyOne (dateOf d)
+unfolding dateOf
+only-date d m e = only-unless (isDay d) (theDate (d .0)) m e
+
+only-days : (t : Date) (n : ℤ) → OnlyOne (daysLater t n)
+unfolding daysLater
+only-days t n = only-then (landing 3652059 (pos (dayNumber t) +ℤ n)) (λ k. dateOf (record { 0 = k })) (only-landing _ _) (λ k. only-date (record { 0 = k }))
+
+only-business : (h : List ℕ) (n : ℤ) (d : ℕ) → OnlyOne (businessDay h n d)
+only-business h (pos k) d m e = later-refuses h k d m e
+only-business h (negsuc k) d m e = earlier-refuses h (suc k) d m e
+
+unit-refuses : (v : TimePeriodUnit) (n : ℤ) (h : Holidays) (t : Date) → served v h ≡ true → OnlyOne (unitStep v n h t)
+unfolding daysStep weeksStep monthsStep yearsStep businessStep monthsLater yearsLater existingDate
+unit-refuses Daily n h t s = only-days t n
+unit-refuses BusinessDaily n absent t s = absurd (let w : _≡_ {A = ℕ} 0 1 = cc in omega arith)
+unit-refuses BusinessDaily n (table h) t s = only-then (businessDay h n (dayNumber t)) dateOf (only-business h n (dayNumber t)) only-date
+unit-refuses Weekly n h t s = only-days t (pos 7 *ℤ n)
+unit-refuses Monthly n h t s = only-then (landing 119987 (pos (monthIndex t) +ℤ n)) (λ i. given (monthDate i (t .day))) (only-landing _ _) (λ i m e. absurd (given-not-refused e))
+unit-refuses Annual n h t s =
+    only-then (landing 9999 (pos (t .year) +ℤ n)) (λ y. existingDate (record { year = y; month = t .month; day = t .day })) (only-landing _ _)
+    (λ y. only-unless (isDate (record { year = y; month = t .month; day = t .day })) (record { year = y; month = t .month; day = t .day }))
+
+-- a step that is refused at all is refused with 1, but for B without a table
+pub step-refuses : (p : TimePeriod) (h : Holidays) (t : Date) → served (p .unit) h ≡ true → OnlyOne (stepped p h t)
+step-refuses p h t s = unit-refuses (p .unit) (p .num) h t s
+
+-- ---- added and subtracted
+
+-- what is given passed every check
+pub record Judged (p : TimePeriod) (h : Holidays) (t u : Date) : Type 0 where
+  pub from : isDate t ≡ true
+  pub serves : served (p .unit) h ≡ true
+  pub taken : accepted h ≡ true
+  pub step : stepped p h t ≡ given u
+
+pub add-judged : (p : TimePeriod) (h : Holidays) (t u : Date) → addTo p h t ≡ given u → Judged p h t u
+unfolding addTo
+add-judged p h t u e =
+    let a = unless-given (isDate t) 1 _ u e in
+    let b = unless-given (served (p .unit) h) 12 _ u (a .1) in
+    let c = unless-given (accepted h) 13 _ u (b .1) in
+    record { from = a .0; serves = b .0; taken = c .0; step = c .1 }
+
+-- the period with its number negated
+abbrev pub negated : TimePeriod → TimePeriod
+negated p = record { num = negℤ (p .num); unit = p .unit }
+
+-- subtracting is adding the negated number, where there is one, and else 4, after the date's 1
+pub record Subtracted (p : TimePeriod) (h : Holidays) (t : Date) : Type 0 where
+  pub adds : isLeast (p .num) ≡ false → subFrom p h t ≡ addTo (negated p) h t
+  pub least : isLeast (p .num) ≡ true → isDate t ≡ true → subFrom p h t ≡ refused 4
+  pub undated : isDate t ≡ false → subFrom p h t ≡ refused 1
+
+pub subtracted : (p : TimePeriod) (h : Holidays) (t : Date) → Subtracted p h t
+unfolding subFrom addTo inverseOf
+subtracted p h t =
+    record {
+      adds = λ e. rw e;
+      least = λ e d. rw (e, d);
+      undated = λ d. rw d;
+    }
+
+-- a period added leads later where its number is above zero, and subtracted earlier
+pub add-leads : (p : TimePeriod) (h : Holidays) (t u : Date) → addTo p h t ≡ given u → Stepped p h t u
+add-leads p h t u e = let j = add-judged p h t u e in step-leads p h t u (j .from) (j .step)
+
+positive-not-least : (n : ℤ) → ltZ (pos 0) n ≡ true → isLeast n ≡ false
+positive-not-least (pos k) e = refl
+positive-not-least (negsuc k) e = absurd (let w : _≡_ {A = ℕ} 0 1 = cc in omega arith)
+
+pub sub-leads : (p : TimePeriod) (h : Holidays) (t u : Date) → ltZ (pos 0) (p .num) ≡ true → subFrom p h t ≡ given u → EarlierDate t u
+sub-leads p h t u s e =
+    let k = add-leads (negated p) h t u (sym (subtracted p h t .adds (positive-not-least (p .num) s)) ∙ e) in
+    record { dated = k .dated; earlier = k .earlier (negative-back (p .num) s) }

@@ -1,0 +1,108 @@
+-- Steps: where a period leads from a date, forwards and back.
+-- Assumes nothing.
+use Prim.Native.Nat.{ℕ, suc}
+use mathlib.Core.Path.{_≡_}
+use mathlib.Core.Bool.{Bool, true, false, not}
+use mathlib.Core.List.{List}
+use lib.Dec.{eqb}
+use lib.IntN.{ℤ, pos, negsuc, negℤ, _*ℤ_}
+use Rattle.paper.specs.Outcome.{Outcome, given, refused, unless, andThen}
+use Rattle.calendar.specs.Dates.{isDate, dayNumber}
+use Rattle.calendar.specs.Answers.{dateOutcome, dateOf}
+use Rattle.calendar.specs.declared.Day.{Day}
+use Rattle.calendar.specs.declared.Date.{Date}
+use Rattle.calendar.specs.declared.DateAnswer.{DateAnswer}
+use Rattle.date_step.specs.Steps.{daysLater, monthsLater, yearsLater}
+use Rattle.holidays.specs.Table.{isTable}
+use Rattle.holidays.specs.Business.{laterFrom, earlierFrom}
+use Rattle.time_period.specs.declared.TimePeriodUnit.{TimePeriodUnit}
+use Rattle.time_period.specs.declared.TimePeriodUnit.the-variants.{Daily, BusinessDaily, Weekly, Monthly, Annual}
+use Rattle.time_period.specs.declared.TimePeriod.{TimePeriod}
+use Rattle.time_period.specs.declared.PeriodAnswer.{PeriodAnswer}
+use Rattle.time_period.specs.Periods.{periodOutcome}
+
+-- a holiday table is given, or there is none
+pub data Holidays : Type 0 where
+  absent : Holidays
+  table : List ℕ → Holidays
+
+-- days and weeks add 1 and 7 days each
+unfoldable pub daysStep : ℤ → Date → Outcome Date
+daysStep n t = daysLater t n
+
+unfoldable pub weeksStep : ℤ → Date → Outcome Date
+weeksStep n t = daysLater t (pos 7 *ℤ n)
+
+-- months: move the month, then cut the day to the month's last
+unfoldable pub monthsStep : ℤ → Date → Outcome Date
+monthsStep n t = monthsLater t n
+
+-- years: the same month and day, refused if absent
+unfoldable pub yearsStep : ℤ → Date → Outcome Date
+yearsStep n t = yearsLater t n
+
+-- B steps over business days, back for a negative number
+abbrev pub businessDay : List ℕ → ℤ → ℕ → Outcome Day
+businessDay h (pos k) d = laterFrom h k d
+businessDay h (negsuc k) d = earlierFrom h (suc k) d
+
+-- without a table it is refused, even for 0
+unfoldable pub businessStep : ℤ → Holidays → Date → Outcome Date
+businessStep n absent t = refused 12
+businessStep n (table h) t = andThen (businessDay h n (dayNumber t)) dateOf
+
+-- the step that the unit names
+abbrev pub unitStep : TimePeriodUnit → ℤ → Holidays → Date → Outcome Date
+unitStep Daily n h t = daysStep n t
+unitStep BusinessDaily n h t = businessStep n h t
+unitStep Weekly n h t = weeksStep n t
+unitStep Monthly n h t = monthsStep n t
+unitStep Annual n h t = yearsStep n t
+
+abbrev pub stepped : TimePeriod → Holidays → Date → Outcome Date
+stepped p h t = unitStep (p .unit) (p .num) h t
+
+-- subtracting negates the number; -2,147,483,648 is refused with 4
+abbrev pub isLeast : ℤ → Bool
+isLeast (pos n) = false
+isLeast (negsuc n) = eqb n 2147483647
+
+unfoldable pub inverseOf : TimePeriod → Outcome TimePeriod
+inverseOf p = unless (not (isLeast (p .num))) 4 (given (record { num = negℤ (p .num); unit = p .unit }))
+
+-- 12: B without a table
+abbrev pub needsTable : TimePeriodUnit → Bool
+needsTable Daily = false
+needsTable BusinessDaily = true
+needsTable Weekly = false
+needsTable Monthly = false
+needsTable Annual = false
+
+abbrev pub served : TimePeriodUnit → Holidays → Bool
+served u absent = not (needsTable u)
+served u (table h) = true
+
+-- 13: for a table given, whatever the unit
+abbrev pub accepted : Holidays → Bool
+accepted absent = true
+accepted (table h) = isTable h
+
+-- order for a step: 1 for the date, 4, 12, 13, then 1 for the result
+abbrev pub judgedStep : TimePeriod → Holidays → Date → Outcome Date
+judgedStep p h t = unless (served (p .unit) h) 12 (unless (accepted h) 13 (stepped p h t))
+
+unfoldable pub addTo : TimePeriod → Holidays → Date → Outcome Date
+addTo p h t = unless (isDate t) 1 (judgedStep p h t)
+
+unfoldable pub subFrom : TimePeriod → Holidays → Date → Outcome Date
+subFrom p h t = unless (isDate t) 1 (andThen (inverseOf p) (λ q. judgedStep q h t))
+
+-- what the entry points promise of their result r
+abbrev pub InversePromise : TimePeriod → PeriodAnswer → Type 0
+InversePromise p r = periodOutcome r ≡ inverseOf p
+
+abbrev pub AddPromise : TimePeriod → Holidays → Date → DateAnswer → Type 0
+AddPromise p h t r = dateOutcome r ≡ addTo p h t
+
+abbrev pub SubPromise : TimePeriod → Holidays → Date → DateAnswer → Type 0
+SubPromise p h t r = dateOutcome r ≡ subFrom p h t

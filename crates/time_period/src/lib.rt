@@ -1,0 +1,276 @@
+// Periods, as finql's time_period.rs: their text, their frequency, and the dates that they lead to.
+ghost use mathlib.Core.Path.{_≡_};
+ghost use mathlib.Core.Bool.{true};
+ghost use Prim.Native.Nat.{_≤_};
+ghost use lib.ListN.{length};
+ghost use lib.IntN.{natAbs};
+ghost use Rattle.paper.specs.Outcome.{andThen};
+ghost use Rattle.text.specs.Writing.{lengthOutcome, Written, Wrote};
+ghost use Rattle.calendar.specs.Dates.{isDate};
+ghost use Rattle.calendar.specs.Answers.{dayOutcome, dateOutcome, dateOf};
+ghost use Rattle.holidays.specs.Table.{ascending};
+ghost use Rattle.time_period.specs.Periods.{periodOutcome, unitOutcome, frequencyOutcome, unitOf, numberPart, letterOf, periodText, monthsFrequency, yearsFrequency, ReadPromise, FrequencyPromise};
+ghost use Rattle.time_period.specs.Steps.{absent, table, businessStep, stepped, InversePromise, AddPromise, SubPromise};
+use calendar::Date;
+use calendar::DateAnswer;
+use calendar::DayAnswer;
+use text::LengthAnswer;
+use text::SignedAnswer;
+
+pub enum TimePeriodUnit {
+    Daily,
+    BusinessDaily,
+    Weekly,
+    Monthly,
+    Annual,
+}
+
+pub struct TimePeriod {
+    pub num: i32,
+    pub unit: TimePeriodUnit,
+}
+
+pub enum PeriodAnswer {
+    Period(TimePeriod),
+    Refused(u32),
+}
+
+// How many of a period make a year.
+pub enum FrequencyAnswer {
+    Frequency(u32),
+    Refused(u32),
+}
+
+enum UnitAnswer {
+    Unit(TimePeriodUnit),
+    Refused(u32),
+}
+
+fn unit_of(b: u8) -> UnitAnswer
+    ensures { λ r. ⌜ unitOutcome r ≡ unitOf b ⌝ }
+{
+    match b {
+        b'D' => UnitAnswer::Unit(TimePeriodUnit::Daily),
+        b'B' => UnitAnswer::Unit(TimePeriodUnit::BusinessDaily),
+        b'W' => UnitAnswer::Unit(TimePeriodUnit::Weekly),
+        b'M' => UnitAnswer::Unit(TimePeriodUnit::Monthly),
+        b'Y' => UnitAnswer::Unit(TimePeriodUnit::Annual),
+        _ => UnitAnswer::Refused(paper::INVALID_UNIT),
+    }
+}
+
+fn read_number(s: &[u8], unit: TimePeriodUnit) -> PeriodAnswer
+    ensures { λ r. ⌜ periodOutcome r ≡ numberPart (now (s .entry)) unit ⌝ }
+{
+    match text::read_i32(s, paper::INVALID_PERIOD) {
+        SignedAnswer::Number(num) => PeriodAnswer::Period(TimePeriod { num, unit }),
+        SignedAnswer::Refused(n) => PeriodAnswer::Refused(n),
+    }
+}
+
+// A signed decimal and the unit's letter.
+pub fn read_period(s: &[u8]) -> PeriodAnswer
+    ensures { λ r. ⌜ ReadPromise (now (s .entry)) r ⌝ }
+{
+    if s.len() < 2 {
+        return PeriodAnswer::Refused(paper::PERIOD_TOO_SHORT);
+    }
+    let last = s.len() - 1;
+    match unit_of(s[last]) {
+        UnitAnswer::Unit(unit) => read_number(&s[..last], unit),
+        UnitAnswer::Refused(n) => PeriodAnswer::Refused(n),
+    }
+}
+
+fn letter(unit: TimePeriodUnit) -> u8
+    ensures { λ r. ⌜ r ≡ letterOf unit ⌝ }
+{
+    match unit {
+        TimePeriodUnit::Daily => b'D',
+        TimePeriodUnit::BusinessDaily => b'B',
+        TimePeriodUnit::Weekly => b'W',
+        TimePeriodUnit::Monthly => b'M',
+        TimePeriodUnit::Annual => b'Y',
+    }
+}
+
+fn put_text(p: TimePeriod, out: &mut [u8]) -> usize
+    requires { ⌜ length (periodText p) ≤ length (now out) ⌝ }
+    ensures { λ r. ⌜ Wrote (now (out .entry)) (now (out .exit)) 0 (periodText p) r ⌝ }
+{
+    let unit = p.unit;
+    let at = text::put_signed(p.num, out, 0);
+    out[at] = letter(unit);
+    at + 1
+}
+
+// The number as `Display` writes it, and the unit's letter.
+pub fn write_period(p: TimePeriod, out: &mut [u8]) -> LengthAnswer
+    ensures { λ r. ⌜ Written (now (out .entry)) (now (out .exit)) (periodText p) (lengthOutcome r) ⌝ }
+{
+    if out.len() < text::signed_length(p.num) + 1 {
+        return LengthAnswer::Refused(paper::TOO_FEW_PLACES);
+    }
+    LengthAnswer::Length(put_text(p, out))
+}
+
+// The least number has a magnitude too: 2,147,483,648.
+fn magnitude(n: i32) -> u32
+    ensures { λ r. ⌜ r ≡ natAbs n ⌝ }
+{
+    if n < 0 {
+        (0 - n as i64) as u32
+    } else {
+        n as u32
+    }
+}
+
+fn months_frequency(n: u32) -> FrequencyAnswer
+    ensures { λ r. ⌜ frequencyOutcome r ≡ monthsFrequency n ⌝ }
+{
+    match n {
+        1 => FrequencyAnswer::Frequency(12),
+        3 => FrequencyAnswer::Frequency(4),
+        6 => FrequencyAnswer::Frequency(2),
+        12 => FrequencyAnswer::Frequency(1),
+        _ => FrequencyAnswer::Refused(paper::NO_FREQUENCY),
+    }
+}
+
+fn years_frequency(n: u32) -> FrequencyAnswer
+    ensures { λ r. ⌜ frequencyOutcome r ≡ yearsFrequency n ⌝ }
+{
+    match n {
+        1 => FrequencyAnswer::Frequency(1),
+        _ => FrequencyAnswer::Refused(paper::NO_FREQUENCY),
+    }
+}
+
+// The frequency per year; signs are ignored.
+pub fn frequency(p: TimePeriod) -> FrequencyAnswer
+    ensures { λ r. ⌜ FrequencyPromise p r ⌝ }
+{
+    let unit = p.unit;
+    match unit {
+        TimePeriodUnit::Daily | TimePeriodUnit::BusinessDaily | TimePeriodUnit::Weekly => {
+            FrequencyAnswer::Refused(paper::NO_FREQUENCY)
+        }
+        TimePeriodUnit::Monthly => months_frequency(magnitude(p.num)),
+        TimePeriodUnit::Annual => years_frequency(magnitude(p.num)),
+    }
+}
+
+// The period with its number negated; the least number has no negative.
+pub fn inverse(p: TimePeriod) -> PeriodAnswer
+    ensures { λ r. ⌜ InversePromise p r ⌝ }
+{
+    let n = p.num;
+    if n == -2147483648 {
+        return PeriodAnswer::Refused(paper::INVALID_PERIOD);
+    }
+    let unit = p.unit;
+    PeriodAnswer::Period(TimePeriod { num: -n, unit })
+}
+
+// Inner: the step from a date that is already judged, so that a walk judges once.
+pub fn step(p: TimePeriod, t: Date) -> DateAnswer
+    requires { ⌜ isDate t ≡ true ⌝ }
+    ensures { λ r. ⌜ dateOutcome r ≡ stepped p absent t ⌝ }
+{
+    let unit = p.unit;
+    match unit {
+        TimePeriodUnit::Daily => date_step::days_later(t, p.num as i64),
+        TimePeriodUnit::BusinessDaily => DateAnswer::Refused(paper::MISSING_CALENDAR),
+        TimePeriodUnit::Weekly => date_step::days_later(t, 7 * p.num as i64),
+        TimePeriodUnit::Monthly => date_step::months_later(t, p.num),
+        TimePeriodUnit::Annual => date_step::years_later(t, p.num),
+    }
+}
+
+// The date of the day that a search found.
+fn dated(d: DayAnswer) -> DateAnswer
+    ensures { λ r. ⌜ dateOutcome r ≡ andThen (dayOutcome d) dateOf ⌝ }
+{
+    match d {
+        DayAnswer::Day(day) => calendar::date_of(day),
+        DayAnswer::Refused(k) => DateAnswer::Refused(k),
+    }
+}
+
+fn step_business(n: i32, t: Date, holidays: &[u32]) -> DateAnswer
+    requires { ⌜ (isDate t ≡ true) × (ascending (now holidays) ≡ true) ⌝ }
+    ensures { λ r. ⌜ dateOutcome r ≡ businessStep n (table (now (holidays .entry))) t ⌝ }
+{
+    let day = calendar::number_of(t);
+    if n < 0 {
+        dated(holidays::earlier_from(day, magnitude(n), holidays))
+    } else {
+        dated(holidays::later_from(day, magnitude(n), holidays))
+    }
+}
+
+// Inner: the step from a date and over holidays that are already judged, with no limit to their number.
+pub fn step_with(p: TimePeriod, t: Date, holidays: &[u32]) -> DateAnswer
+    requires { ⌜ (isDate t ≡ true) × (ascending (now holidays) ≡ true) ⌝ }
+    ensures { λ r. ⌜ dateOutcome r ≡ stepped p (table (now (holidays .entry))) t ⌝ }
+{
+    let unit = p.unit;
+    if let TimePeriodUnit::BusinessDaily = unit {
+        return step_business(p.num, t, holidays);
+    }
+    step(p, t)
+}
+
+// The date a period on, without a holiday table.
+pub fn add_to(p: TimePeriod, t: Date) -> DateAnswer
+    ensures { λ r. ⌜ AddPromise p absent t r ⌝ }
+{
+    if !calendar::is_date(t) {
+        return DateAnswer::Refused(paper::INVALID_DATE);
+    }
+    step(p, t)
+}
+
+// The date a period back, without a holiday table.
+pub fn sub_from(p: TimePeriod, t: Date) -> DateAnswer
+    ensures { λ r. ⌜ SubPromise p absent t r ⌝ }
+{
+    if !calendar::is_date(t) {
+        return DateAnswer::Refused(paper::INVALID_DATE);
+    }
+    match inverse(p) {
+        PeriodAnswer::Period(q) => step(q, t),
+        PeriodAnswer::Refused(n) => DateAnswer::Refused(n),
+    }
+}
+
+// The date a period on; a table that is given is judged, whatever the unit.
+pub fn add_to_with(p: TimePeriod, t: Date, holidays: &[u32]) -> DateAnswer
+    ensures { λ r. ⌜ AddPromise p (table (now (holidays .entry))) t r ⌝ }
+{
+    if !calendar::is_date(t) {
+        return DateAnswer::Refused(paper::INVALID_DATE);
+    }
+    if !holidays::is_table(holidays) {
+        return DateAnswer::Refused(paper::BAD_HOLIDAY_TABLE);
+    }
+    step_with(p, t, holidays)
+}
+
+// The date a period back; a table that is given is judged, whatever the unit.
+pub fn sub_from_with(p: TimePeriod, t: Date, holidays: &[u32]) -> DateAnswer
+    ensures { λ r. ⌜ SubPromise p (table (now (holidays .entry))) t r ⌝ }
+{
+    if !calendar::is_date(t) {
+        return DateAnswer::Refused(paper::INVALID_DATE);
+    }
+    match inverse(p) {
+        PeriodAnswer::Period(q) => {
+            if !holidays::is_table(holidays) {
+                return DateAnswer::Refused(paper::BAD_HOLIDAY_TABLE);
+            }
+            step_with(q, t, holidays)
+        }
+        PeriodAnswer::Refused(n) => DateAnswer::Refused(n),
+    }
+}

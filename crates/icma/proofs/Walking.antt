@@ -182,3 +182,36 @@ base-ends p start end roll w d h e =
     let g = then-given (walkOn p start roll) (λ a. walkBack (negated p) end (a .at)) w e in
     let a = on-ends p start roll (g .0) d h (g .1) in
     back-ends (negated p) end (g .0 .at) w (a .0 .dated) (negated-below (p .num) h) (g .2) .0 .dated
+
+-- the last turn of a walk: none was made, or the walk stood at x with more to go
+pub data LastTurn (more : Date → Bool) (turn : Walked → Outcome Walked) (w v : Walked) : Type 0 where
+  none-made : w ≡ v → LastTurn more turn w v
+  made : (x : Walked) → isDate (x .at) ≡ true → more (x .at) ≡ true → turn x ≡ given v → LastTurn more turn w v
+
+pub last-turn : (more : Date → Bool) (turn : Walked → Outcome Walked) (φ : Date → ℕ) → ((w v : Walked) → isDate (w .at) ≡ true → turn w ≡ given v → Turned φ w v) → (k : ℕ) (w v : Walked) → isDate (w .at) ≡ true → walk k more turn w ≡ given v → LastTurn more turn w v
+unfolding walk
+last-turn more turn φ leads zero w v d e = absurd (given-not-refused (sym e))
+last-turn more turn φ leads (suc k) w v d e = by (more (w .at)) refl (last-turn more turn φ leads k)
+  where
+    on : (x : Walked) → turn w ≡ given x → more (w .at) ≡ true → LastTurn more turn x v → LastTurn more turn w v
+    on x t h (none-made q) = made w d h (t ∙ ap given q)
+    on x t h (made y i j l) = made y i j l
+
+    by : (b : Bool) → more (w .at) ≡ b → ((x y : Walked) → isDate (x .at) ≡ true → walk k more turn x ≡ given y → LastTurn more turn x y) → LastTurn more turn w v
+    by false h r = none-made (given-injective (sym (walk-there more turn k w h) ∙ e))
+    by true h r =
+        let g = then-given (turn w) (walk k more turn) v (sym (walk-more more turn k w h) ∙ e) in
+        on (g .0) (g .1) h (r (g .0) v (leads w (g .0) d (g .1) .dated) (g .2))
+
+-- what a walk adds up: where each turn keeps m times the count and ψ from rising together, so does the walk
+pub walk-keeps : (more : Date → Bool) (turn : Walked → Outcome Walked) (ψ : Walked → ℕ) → ((w v : Walked) → isDate (w .at) ≡ true → turn w ≡ given v → (isDate (v .at) ≡ true) × (ψ v ≤ ψ w)) → (k : ℕ) (w v : Walked) → isDate (w .at) ≡ true → walk k more turn w ≡ given v → ψ v ≤ ψ w
+unfolding walk
+walk-keeps more turn ψ keeps zero w v d e = absurd (given-not-refused (sym e))
+walk-keeps more turn ψ keeps (suc k) w v d e = by (more (w .at)) refl (walk-keeps more turn ψ keeps k)
+  where
+    by : (b : Bool) → more (w .at) ≡ b → ((x y : Walked) → isDate (x .at) ≡ true → walk k more turn x ≡ given y → ψ y ≤ ψ x) → ψ v ≤ ψ w
+    by false h r = let q : w ≡ v = given-injective (sym (walk-there more turn k w h) ∙ e) in rw q (omega arith)
+    by true h r =
+        let g = then-given (turn w) (walk k more turn) v (sym (walk-more more turn k w h) ∙ e) in
+        let s = keeps w (g .0) d (g .1) in
+        omega (arith, s .1, r (g .0) v (s .0) (g .2))

@@ -1,0 +1,83 @@
+-- The desk card's fractions, and the refusals in their order, as theorems about the definitions.
+-- Assumes nothing.
+use Prim.Native.Nat.{ℕ}
+use mathlib.Core.Path.{_≡_, refl}
+use lib.IntN.{ℤ, pos, negsuc}
+use Rattle.paper.specs.Outcome.{given, refused}
+use Rattle.calendar.specs.Dates.{isDate, isBefore, isSame, dayNumber, monthDate}
+use Rattle.calendar.specs.declared.Date.{Date}
+use Rattle.gregorian.specs.Gregorian.{leap, lengthIn, monthLength, yearLength, before}
+use Rattle.date_step.specs.Steps.{landing, monthsLater}
+use Rattle.time_period.specs.Periods.{monthsFrequency, yearsFrequency, frequencyOf}
+use Rattle.time_period.specs.Steps.{monthsStep}
+use Rattle.day_fraction.specs.Exact.{Exact}
+use Rattle.day_fraction.specs.Fractions.{sinceJanuary, exactFraction, impossible}
+use Rattle.icma.specs.Walk.{walk, turnOn, walkOn, turnBack, walkBack, baseFrom, shortParts, firstPart, lastPart, toLast, toEnd, toFirst, longParts, partsFrom, icmaParts}
+use Rattle.day_count_conv.specs.Conventions.{simpleFraction, walkedFraction, frequentFraction, yearFraction, conventionOf, exactly}
+use Rattle.time_period.specs.declared.TimePeriodUnit.the-variants as unit
+use Rattle.day_count_conv.specs.declared.DayCountConv.the-variants as conv
+use Rattle.day_count_conv.specs.declared.RollDate.the-variants as roll-date
+use Rattle.day_count_conv.specs.declared.RollPeriod.the-variants as roll-period
+use Rattle.day_count_conv.specs.declared.Extras.{Extras}
+
+abbrev on : ℕ → ℕ → ℕ → Date
+on y m d = record { year = y; month = m; day = d }
+
+abbrev over : ℤ → ℕ → Exact
+over n d = record { num = n; den = d }
+
+abbrev none : Extras
+none = record { roll = roll-date.Absent; period = roll-period.Absent }
+
+abbrev rolled : Date → ℤ → Extras
+rolled t n = record { roll = roll-date.Date t; period = roll-period.Period (record { num = n; unit = unit.Monthly }) }
+
+-- g to k of the desk card, exactly
+pub record Card : Type 0 where
+  pub g : yearFraction exactly conv.D30_360 (on 2021 1 30) (on 2021 1 31) none ≡ refused 9
+  pub h : yearFraction exactly conv.D30_360 (on 2020 11 30) (on 2021 2 28) none ≡ given (over (pos 88) 360)
+  pub i-30-360 : yearFraction exactly conv.D30_360 (on 2021 1 15) (on 2021 3 31) none ≡ given (over (pos 76) 360)
+  pub i-30E-360 : yearFraction exactly conv.D30E360 (on 2021 1 15) (on 2021 3 31) none ≡ given (over (pos 75) 360)
+  pub k : yearFraction exactly conv.ActActICMA (on 2021 3 1) (on 2021 6 1) (rolled (on 2022 1 1) (pos 12)) ≡ given (over (pos 92) 365)
+
+pub card : Card
+unfolding leap lengthIn monthLength yearLength before isDate isBefore isSame dayNumber monthDate landing monthsLater monthsFrequency yearsFrequency frequencyOf monthsStep sinceJanuary exactFraction impossible walk turnOn walkOn turnBack walkBack baseFrom shortParts firstPart lastPart toLast toEnd toFirst longParts partsFrom icmaParts simpleFraction walkedFraction frequentFraction yearFraction
+card = record { g = refl; h = refl; i-30-360 = refl; i-30E-360 = refl; k = refl }
+
+-- the refusals in their order, and what other rules ignore
+pub record Order : Type 0 where
+  pub start-first : yearFraction exactly conv.ActActICMA (on 2021 2 29) (on 2021 1 1) none ≡ refused 1
+  pub roll-date-before-order : yearFraction exactly conv.ActActICMA (on 2021 3 1) (on 2021 1 1) (rolled (on 2021 2 29) (pos 3)) ≡ refused 1
+  pub roll-date-ignored : yearFraction exactly conv.Act365 (on 2021 1 1) (on 2021 1 2) (rolled (on 2021 2 29) (pos 0)) ≡ given (over (pos 1) 365)
+  pub start-after-end : yearFraction exactly conv.ActActICMA (on 2021 3 1) (on 2021 1 1) none ≡ refused 19
+  pub no-roll-date : yearFraction exactly conv.ActActICMA (on 2021 1 1) (on 2021 3 1) none ≡ refused 10
+  pub no-period : yearFraction exactly conv.ActActICMA (on 2021 1 1) (on 2021 3 1) (record { roll = roll-date.Date (on 2021 1 1); period = roll-period.Absent }) ≡ refused 11
+  pub no-frequency : yearFraction exactly conv.ActActICMA (on 2021 1 1) (on 2021 3 1) (rolled (on 2021 1 1) (pos 0)) ≡ refused 5
+  pub below-one : yearFraction exactly conv.ActActICMA (on 2021 1 1) (on 2021 3 1) (rolled (on 2021 1 1) (negsuc 2)) ≡ refused 14
+  pub out-of-calendar : yearFraction exactly conv.ActActICMA (on 1 1 2) (on 1 1 3) (rolled (on 1 1 3) (pos 1)) ≡ refused 1
+  pub code-six : conventionOf 6 ≡ refused 18
+
+pub order : Order
+unfolding leap lengthIn monthLength yearLength before isDate isBefore isSame dayNumber monthDate landing monthsLater monthsFrequency yearsFrequency frequencyOf monthsStep sinceJanuary exactFraction impossible walk turnOn walkOn turnBack walkBack baseFrom shortParts firstPart lastPart toLast toEnd toFirst longParts partsFrom icmaParts simpleFraction walkedFraction frequentFraction yearFraction conventionOf
+order =
+    record {
+      start-first = refl;
+      roll-date-before-order = refl;
+      roll-date-ignored = refl;
+      start-after-end = refl;
+      no-roll-date = refl;
+      no-period = refl;
+      no-frequency = refl;
+      below-one = refl;
+      out-of-calendar = refl;
+      code-six = refl;
+    }
+
+-- where a step clips, the first broken part may be negative, and the whole may be 0 on two dates: an answer, and no refusal
+pub record Clipped : Type 0 where
+  pub negative : yearFraction exactly conv.ActActICMA (on 2021 3 30) (on 2021 3 31) (rolled (on 2021 3 31) (pos 1)) ≡ given (over (negsuc 1) 336)
+  pub zero-on-two-dates : yearFraction exactly conv.ActActICMA (on 2021 5 30) (on 2021 5 31) (rolled (on 2021 5 31) (pos 1)) ≡ given (over (pos 0) 360)
+
+pub clipped : Clipped
+unfolding leap lengthIn monthLength yearLength before isDate isBefore dayNumber monthDate landing monthsLater monthsFrequency frequencyOf monthsStep walk turnOn walkOn turnBack walkBack baseFrom shortParts firstPart lastPart toLast toEnd toFirst longParts partsFrom icmaParts walkedFraction frequentFraction yearFraction
+clipped = record { negative = refl; zero-on-two-dates = refl }

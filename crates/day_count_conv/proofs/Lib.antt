@@ -1,0 +1,5 @@
+pub mod Numbers
+pub mod Walks
+pub mod Bounds
+pub mod OneOutcome
+pub mod Examples

@@ -1,8 +1,11 @@
 -- Each fraction given is within 1 / 2 ^ 38 of the exact one, by every rule; and where one is refused, so is the other, with one number.
 -- Assumes nothing.
-use Prim.Native.Nat.{ℕ, _≤_}
+use Prim.Native.Nat.{ℕ, _*_, _≤_}
 use mathlib.Core.Path.{_≡_, refl, sym, subst}
 use mathlib.Core.Bool.{Bool, true, false, not}
+use native.Mathlib.Nat.{mul-le-mul-left}
+use native.Mathlib.Omega.{arith}
+use lib.Dec.{lit≤}
 use lib.IntN.{pos}
 use lib.Signed.{leZ}
 use lib.Ieee.{Float}
@@ -11,14 +14,17 @@ use Rattle.paper.proofs.Outcomes.{both-true}
 use Rattle.calendar.specs.Dates.{isDate, isBefore}
 use Rattle.calendar.specs.declared.Date.{Date}
 use Rattle.calendar.proofs.Dates.{date-yes}
+use Rattle.gregorian.specs.Gregorian.{yearLength}
+use Rattle.gregorian.proofs.Months.{year-least}
 use Rattle.time_period.specs.Periods.{frequencyOf}
 use Rattle.day_fraction.specs.Exact.{Exact}
 use Rattle.day_fraction.specs.Fractions.{bits, exactFraction, impossible}
 use Rattle.icma.specs.Walk.{icmaParts}
-use Rattle.day_count_conv.specs.Conventions.{partsBits, partsExact, simpleFraction, walkedFraction, frequentFraction, icmaFraction, byRule, rollDateExists, rollDated, yearFraction, inBits, exactly, Within}
+use Rattle.day_count_conv.specs.Conventions.{partExact, partsBits, partsExact, simpleFraction, walkedFraction, frequentFraction, icmaFraction, byRule, rollDateExists, rollDated, yearFraction, inBits, exactly, Within}
 use Rattle.time_period.specs.declared.TimePeriodUnit.{TimePeriodUnit}
 use Rattle.time_period.specs.declared.TimePeriod.{TimePeriod}
 use Rattle.day_fraction.specs.declared.SimpleRule.{SimpleRule}
+use Rattle.day_fraction.specs.declared.SimpleRule.the-variants.{Act365, Act360, Act365l, D30_360, D30E360}
 use Rattle.day_count_conv.specs.declared.DayCountConv.{DayCountConv}
 use Rattle.day_count_conv.specs.declared.DayCountConv.the-variants as conv
 use Rattle.day_count_conv.specs.declared.RollDate.{RollDate}
@@ -28,9 +34,35 @@ use Rattle.day_count_conv.specs.declared.RollPeriod.the-variants as roll
 use Rattle.day_count_conv.specs.declared.Extras.{Extras}
 use Rattle.time_period.proofs.Frequencies.{WholeYear, regular-period, whole-year, monthsIn}
 use Rattle.day_fraction.proofs.Bounds.{within}
-use Rattle.icma.proofs.Sizes.{parts-size}
+use Rattle.icma.specs.declared.Broken.{Broken}
+use Rattle.icma.specs.declared.Broken.the-variants.{Nothing, Part}
+use Rattle.icma.specs.declared.Parts.{Parts}
+use Rattle.icma.specs.declared.Parts.the-variants.{Short, Long}
+use Rattle.icma.proofs.Sizes.{BrokenSize, PartsSize, parts-size}
 use Rattle.day_count_conv.proofs.Numbers.{not-below, above-one, positive-months}
 use Rattle.day_count_conv.proofs.Walks.{walk-close}
+
+-- the exact fraction's lower number is above 0
+product : (a b : ℕ) → 1 ≤ a → 1 ≤ b → 1 ≤ a * b
+product a b h k = omega (arith, mul-le-mul-left a k)
+
+simple-den : (rule : SimpleRule) (start end : Date) → 1 ≤ start .year → 1 ≤ end .year → 1 ≤ exactFraction rule start end .den
+unfolding exactFraction
+simple-den Act365 start end h k = lit≤ tt
+simple-den Act360 start end h k = lit≤ tt
+simple-den Act365l start end h k =
+    product (yearLength (end .year)) (yearLength (start .year)) (omega (arith, year-least (end .year) k)) (omega (arith, year-least (start .year) h))
+simple-den D30_360 start end h k = lit≤ tt
+simple-den D30E360 start end h k = lit≤ tt
+
+part-den : (x : Broken) → BrokenSize x → 1 ≤ partExact x .den
+part-den Nothing s = lit≤ tt
+part-den (Part d l) s = s .0
+
+parts-den : (m f : ℕ) (x : Parts) → 1 ≤ f → PartsSize m x → 1 ≤ partsExact f x .den
+parts-den m f (Short days l) h s = product l f (s .0) h
+parts-den m f (Long first last count) h s =
+    product f (partExact first .den * partExact last .den) h (product (partExact first .den) (partExact last .den) (part-den first (s .0)) (part-den last (s .1)))
 
 -- one check, or one step, before both
 unless-within : (b : Bool) (n : ℕ) (o : Outcome Float) (p : Outcome Exact) → (b ≡ true → Within o p) → Within (unless b n o) (unless b n p)
@@ -46,7 +78,7 @@ module _ (start end : Date) (ds : isDate start ≡ true) (de : isDate end ≡ tr
   unfolding simpleFraction
   simple-within rule =
       unless-within (not (impossible rule start end)) 9 (given (bits rule start end)) (given (exactFraction rule start end))
-      (λ h. within start end (date-yes start ds) (date-yes end de) rule)
+      (λ h. let s = date-yes start ds in let e = date-yes end de in (simple-den rule start end (s .year-from) (e .year-from), within start end s e rule))
 
   walked-within : (p : TimePeriod) (roll : Date) (f : ℕ) → isDate roll ≡ true → frequencyOf p ≡ given f → Within (walkedFraction inBits p start end roll f) (walkedFraction exactly p start end roll f)
   unfolding walkedFraction
@@ -57,7 +89,9 @@ module _ (start end : Date) (ds : isDate start ≡ true) (de : isDate end ≡ tr
       let r = regular-period p f l e in
       let w = whole-year (p .unit) (r .0) f (r .2) in
       then-within (icmaParts p start end roll) (λ x. given (partsBits f x)) (λ x. given (partsExact f x))
-      (λ x g. walk-close (p .unit) (r .0) f x (r .2) (parts-size p (r .0) (r .1) (some w) (above-one (p .num) h) start end roll x ds de dr g)))
+      (λ x g.
+      let s = parts-size p (r .0) (r .1) (some w) (above-one (p .num) h) start end roll x ds de dr g in
+      (parts-den (monthsIn (p .unit) (r .0)) f x (w .from) s, walk-close (p .unit) (r .0) f x (r .2) s)))
     where
       some : {u : TimePeriodUnit} {n f : ℕ} → WholeYear u n f → 1 ≤ monthsIn u n
       some {u} {n} {f} w = positive-months f (monthsIn u n) (w .months)

@@ -1,6 +1,6 @@
 -- The year fraction by six rules: its refusals in their order, and its f64.
 -- Assumes nothing.
-use Prim.Native.Nat.{ℕ, _*_}
+use Prim.Native.Nat.{ℕ, _*_, _≤_}
 use mathlib.Core.Path.{_≡_}
 use mathlib.Core.Bool.{Bool, true, false, not}
 use mathlib.Core.List.{List, [], _∷_}
@@ -149,9 +149,9 @@ inBits = record { simple = bits; walked = partsBits }
 abbrev pub exactly : Values Exact
 exactly = record { simple = exactFraction; walked = partsExact }
 
--- a fraction given is within 1 / 2^38 of the exact one, and the same is refused
+-- a fraction given is within 1 / 2^38 of the exact one, whose lower number is above 0; and the same is refused
 abbrev pub Within : Outcome Float → Outcome Exact → Type 0
-Within (given x) (given q) = CloseTo x q
+Within (given x) (given q) = (1 ≤ q .den) × CloseTo x q
 Within (given x) (refused n) = ⊥
 Within (refused n) (given q) = ⊥
 Within (refused m) (refused n) = m ≡ n

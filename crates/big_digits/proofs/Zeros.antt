@@ -5,32 +5,28 @@ use mathlib.Core.Bool.{Bool, true, false}
 use mathlib.Core.List.{List, [], _∷_}
 use mathlib.Core.Logic.{⊎-elim}
 use native.Mathlib.Nat.{pow-suc, div-eq-of-lt, div-lt-iff-lt-mul, le-div-iff-mul-le, pow-le-pow-right}
-use native.Mathlib.Numerals.{add-one}
 use native.Mathlib.Omega.{arith}
 use lib.Dec.{eqb}
 use lib.ListN.{length, drop, getD, drop-of-length-le}
-use lib.Seq.{drop-cons}
 use borrow.Author.Tests.{eq-eqb, ne-eqb}
 use Rattle.paper.specs.Outcome.{pick}
 use Rattle.text.specs.Writing.{digits, places}
-use Rattle.text.proofs.Digits.{lt-or-le, digits-first, places-few, places-least, places-enough}
+use Rattle.text.proofs.Digits.{pow-some, lt-or-le, digits-first, places-few, places-least, places-enough}
+use Rattle.text.proofs.Decimals.{byte-first}
 use Rattle.big_digits.specs.BigDigits.{zerosLeading}
 
 -- ---- counted up from the start
 
-zeros-cons : (s : List ℕ) (i : ℕ) → i < length s → drop i s ≡ getD s i 0 ∷ drop (i + 1) s
-zeros-cons s i h = rw (add-one i) (drop-cons s i 0 h)
-
 pub zeros-more : (s : List ℕ) (i z : ℕ) → i + zerosLeading (drop i s) ≡ z → i < length s → getD s i 0 ≡ 48 → i + 1 + zerosLeading (drop (i + 1) s) ≡ z
 unfolding zerosLeading
 zeros-more s i z e h f =
-    let g = rw (zeros-cons s i h, eq-eqb (getD s i 0) 48 f) at e in
+    let g = rw (byte-first s i h, eq-eqb (getD s i 0) 48 f) at e in
     omega arith
 
 pub zeros-stop : (s : List ℕ) (i z : ℕ) → i + zerosLeading (drop i s) ≡ z → i < length s → (getD s i 0 ≡ 48 → ⊥) → i ≡ z
 unfolding zerosLeading
 zeros-stop s i z e h f =
-    let g = rw (zeros-cons s i h, ne-eqb (getD s i 0) 48 f) at e in
+    let g = rw (byte-first s i h, ne-eqb (getD s i 0) 48 f) at e in
     omega arith
 
 pub zeros-end : (s : List ℕ) (i z : ℕ) → i + zerosLeading (drop i s) ≡ z → length s ≤ i → i ≡ z
@@ -60,9 +56,6 @@ no-digits : (v : ℕ) → zerosLeading (digits 0 v) ≡ 0
 unfolding zerosLeading digits
 no-digits v = refl
 
-ten-pow : (k : ℕ) → 0 < 10 ^ k
-ten-pow k = pow-le-pow-right {n = 10} (omega arith) {i = 0} {j = k} (omega arith)
-
 -- a number of exactly k + 1 digits
 pub places-exact : (k w : ℕ) → 10 ^ k ≤ w → w < 10 ^ suc k → places w ≡ suc k
 places-exact k w l h = ⊎-elim (λ p. absurd (omega (arith, places-enough w, pow-le-pow-right {n = 10} (omega arith) {i = places w} {j = k} (omega arith)))) (λ p. omega (arith, places-least (suc k) w (omega arith) h)) (lt-or-le (places w) (suc k))
@@ -75,8 +68,8 @@ zero-more k w h =
 
 zero-none : (k w : ℕ) → 10 ^ suc k ≤ w → w < 10 ^ suc (suc k) → zerosLeading (digits (suc k) (w / 10)) ≡ 0
 zero-none k w l h =
-    let low : 1 ≤ w / 10 / 10 ^ k = le-div-iff-mul-le {k = 10 ^ k} (ten-pow k) .1 (omega (arith, pow-suc 10 k)) in
-    let high : w / 10 / 10 ^ k < 10 = div-lt-iff-lt-mul {k = 10 ^ k} (ten-pow k) .1 (omega (arith, pow-suc 10 k, pow-suc 10 (suc k))) in
+    let low : 1 ≤ w / 10 / 10 ^ k = le-div-iff-mul-le {k = 10 ^ k} (pow-some k) .1 (omega (arith, pow-suc 10 k)) in
+    let high : w / 10 / 10 ^ k < 10 = div-lt-iff-lt-mul {k = 10 ^ k} (pow-some k) .1 (omega (arith, pow-suc 10 k, pow-suc 10 (suc k))) in
     ap zerosLeading (digits-first k (w / 10)) ∙ other-first (48 + w / 10 / 10 ^ k % 10) (digits k (w / 10)) (λ e. omega arith)
 
 pub zeros-before : (k w : ℕ) → w < 10 ^ suc k → zerosLeading (digits k (w / 10)) + places w ≡ suc k

@@ -1,7 +1,6 @@
 // The decimal digits of a number past 64 bits, in lent bytes.
 ghost use mathlib.Core.Path.{_≡_};
 ghost use Prim.Native.Nat.{_*_, _≤_, _<_, _^_};
-ghost use lib.ListN.{length};
 ghost use Rattle.text.specs.Writing.{digits};
 ghost use Rattle.big_digits.specs.BigDigits.{Multiplied, Scaled, CountsZeros};
 

@@ -1,7 +1,7 @@
 -- Dates and serial days of the calendar, which runs from 0001-01-01, day 1, to 9999-12-31, day 3652059.
 -- Assumes nothing.
 use Prim.Native.Nat.{ℕ, _+_, _-_, _*_, _/_, _%_, min}
-use mathlib.Core.Bool.{Bool, true, false}
+use mathlib.Core.Bool.{Bool}
 use lib.Dec.{eqb, leb, ltb}
 use Rattle.paper.specs.Outcome.{pick, both}
 use Rattle.gregorian.specs.Gregorian.{monthLength, yearLength, beforeYear, beforeMonth, unitOf}

@@ -8,13 +8,10 @@ use native.Mathlib.Omega.{arith}
 use native.Mathlib.Numerals.{add-one}
 use lib.Dec.{eqb}
 use lib.ListN.{length, take, drop, getD, drop-of-length-le, length-drop}
-use lib.Seq.{drop-cons, take-suc, take-all}
+use lib.Seq.{take-suc, take-all}
 use borrow.Author.Tests.{eq-eqb, ne-eqb}
+use Rattle.text.proofs.Decimals.{byte-first}
 use Rattle.coupon_date.specs.Coupons.{isBlank, trimStart, before, trimEnd, hasDot, upToDot, afterDot, DotAt}
-
--- the rest from place i on begins with its byte
-next : (s : List ℕ) (i : ℕ) → i < length s → drop i s ≡ getD s i 0 ∷ drop (i + 1) s
-next s i h = rw add-one (drop-cons s i 0 h)
 
 -- a part up to the end of the text, and one up to a place
 pub part-from : (s : List ℕ) (i : ℕ) → take (length s - i) (drop i s) ≡ drop i s
@@ -24,11 +21,11 @@ part-from s i = take-all (length s - i) (drop i s) (omega (arith, length-drop i 
 module _ (s : List ℕ) (i : ℕ) where
   pub start-more : (z : List ℕ) → trimStart (drop i s) ≡ z → i < length s → isBlank (getD s i 0) ≡ true → trimStart (drop (i + 1) s) ≡ z
   unfolding trimStart
-  start-more z e h b = sym (ap trimStart (next s i h) ∙ rw b) ∙ e
+  start-more z e h b = sym (ap trimStart (byte-first s i h) ∙ rw b) ∙ e
 
   pub start-here : (z : List ℕ) → trimStart (drop i s) ≡ z → i < length s → isBlank (getD s i 0) ≡ false → drop i s ≡ z
   unfolding trimStart
-  start-here z e h b = next s i h ∙ sym (ap trimStart (next s i h) ∙ rw b) ∙ e
+  start-here z e h b = byte-first s i h ∙ sym (ap trimStart (byte-first s i h) ∙ rw b) ∙ e
 
   pub start-end : (z : List ℕ) → trimStart (drop i s) ≡ z → length s ≤ i → drop i s ≡ z
   unfolding trimStart
@@ -79,7 +76,7 @@ pub no-dot-more : (s : List ℕ) (i : ℕ) → NoDot s i → i < length s → (g
 unfolding upToDot hasDot afterDot
 no-dot-more s i n h d =
     let c : eqb (getD s i 0) 46 ≡ false = ne-eqb _ _ d in
-    let b = next s i h in
+    let b = byte-first s i h in
     let t : take (i + 1) s ≡ take i s ++ (getD s i 0 ∷ []) = ap (λ (k : ℕ). take k s) (add-one i) ∙ take-suc s i 0 h in
     record {
       within = omega arith;
@@ -96,7 +93,7 @@ pub dot-here : (s : List ℕ) (i : ℕ) → NoDot s i → i < length s → getD 
 unfolding upToDot hasDot afterDot
 dot-here s i n h d =
     let c : eqb (getD s i 0) 46 ≡ true = eq-eqb _ _ d in
-    let b = next s i h in
+    let b = byte-first s i h in
     record {
       within = n .within;
       first = sym (n .first ∙ ap (λ (r : List ℕ). take i s ++ upToDot r) b ∙ rw c (append-none (take i s)));

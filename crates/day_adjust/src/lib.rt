@@ -1,7 +1,7 @@
 // Day adjustment: a date that is no business day moves by one of four rules.
 ghost use mathlib.Core.Path.{_≡_};
 ghost use mathlib.Core.Bool.{true};
-ghost use Rattle.calendar.specs.Dates.{isDate, dayNumber};
+ghost use Rattle.calendar.specs.Dates.{isDate};
 ghost use Rattle.calendar.specs.Answers.{dateOutcome};
 ghost use Rattle.holidays.specs.Table.{ascending};
 ghost use Rattle.holidays.specs.Search.{Judged};

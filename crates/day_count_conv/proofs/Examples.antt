@@ -9,7 +9,6 @@ use Rattle.calendar.specs.declared.Date.{Date}
 use Rattle.gregorian.specs.Gregorian.{leap, lengthIn, monthLength, yearLength, before}
 use Rattle.date_step.specs.Steps.{landing, monthsLater}
 use Rattle.time_period.specs.Periods.{monthsFrequency, yearsFrequency, frequencyOf}
-use Rattle.time_period.specs.Steps.{monthsStep}
 use Rattle.day_fraction.specs.Exact.{Exact}
 use Rattle.day_fraction.specs.Fractions.{sinceJanuary, exactFraction, impossible}
 use Rattle.icma.specs.Walk.{walk, turnOn, walkOn, turnBack, walkBack, baseFrom, shortParts, firstPart, lastPart, toLast, toEnd, toFirst, longParts, partsFrom, icmaParts}
@@ -41,7 +40,7 @@ pub record Card : Type 0 where
   pub k : yearFraction exactly conv.ActActICMA (on 2021 3 1) (on 2021 6 1) (rolled (on 2022 1 1) (pos 12)) ≡ given (over (pos 92) 365)
 
 pub card : Card
-unfolding leap lengthIn monthLength yearLength before isDate isBefore isSame dayNumber monthDate landing monthsLater monthsFrequency yearsFrequency frequencyOf monthsStep sinceJanuary exactFraction impossible walk turnOn walkOn turnBack walkBack baseFrom shortParts firstPart lastPart toLast toEnd toFirst longParts partsFrom icmaParts simpleFraction walkedFraction frequentFraction yearFraction
+unfolding leap lengthIn monthLength yearLength before isDate isBefore isSame dayNumber monthDate landing monthsLater monthsFrequency yearsFrequency frequencyOf sinceJanuary exactFraction impossible walk turnOn walkOn turnBack walkBack baseFrom shortParts firstPart lastPart toLast toEnd toFirst longParts partsFrom icmaParts simpleFraction walkedFraction frequentFraction yearFraction
 card = record { g = refl; h = refl; i-30-360 = refl; i-30E-360 = refl; k = refl }
 
 -- the refusals in their order, and what other rules ignore
@@ -58,7 +57,7 @@ pub record Order : Type 0 where
   pub code-six : conventionOf 6 ≡ refused 18
 
 pub order : Order
-unfolding leap lengthIn monthLength yearLength before isDate isBefore isSame dayNumber monthDate landing monthsLater monthsFrequency yearsFrequency frequencyOf monthsStep sinceJanuary exactFraction impossible walk turnOn walkOn turnBack walkBack baseFrom shortParts firstPart lastPart toLast toEnd toFirst longParts partsFrom icmaParts simpleFraction walkedFraction frequentFraction yearFraction conventionOf
+unfolding leap lengthIn monthLength yearLength before isDate isBefore isSame dayNumber monthDate landing monthsLater monthsFrequency yearsFrequency frequencyOf sinceJanuary exactFraction impossible walk turnOn walkOn turnBack walkBack baseFrom shortParts firstPart lastPart toLast toEnd toFirst longParts partsFrom icmaParts simpleFraction walkedFraction frequentFraction yearFraction conventionOf
 order =
     record {
       start-first = refl;
@@ -79,5 +78,5 @@ pub record Clipped : Type 0 where
   pub zero-on-two-dates : yearFraction exactly conv.ActActICMA (on 2021 5 30) (on 2021 5 31) (rolled (on 2021 5 31) (pos 1)) ≡ given (over (pos 0) 360)
 
 pub clipped : Clipped
-unfolding leap lengthIn monthLength yearLength before isDate isBefore dayNumber monthDate landing monthsLater monthsFrequency frequencyOf monthsStep walk turnOn walkOn turnBack walkBack baseFrom shortParts firstPart lastPart toLast toEnd toFirst longParts partsFrom icmaParts walkedFraction frequentFraction yearFraction
+unfolding leap lengthIn monthLength yearLength before isDate isBefore dayNumber monthDate landing monthsLater monthsFrequency frequencyOf walk turnOn walkOn turnBack walkBack baseFrom shortParts firstPart lastPart toLast toEnd toFirst longParts partsFrom icmaParts walkedFraction frequentFraction yearFraction
 clipped = record { negative = refl; zero-on-two-dates = refl }

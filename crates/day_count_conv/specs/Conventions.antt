@@ -2,13 +2,13 @@
 -- Assumes nothing.
 use Prim.Native.Nat.{ℕ, _*_, _≤_}
 use mathlib.Core.Path.{_≡_}
-use mathlib.Core.Bool.{Bool, true, false, not}
+use mathlib.Core.Bool.{Bool, true, not}
 use mathlib.Core.List.{List, [], _∷_}
 use lib.Dec.{ltb}
 use lib.ListN.{getD}
 use lib.IntN.{ℤ, pos, _+ℤ_, _*ℤ_}
 use lib.Signed.{leZ}
-use lib.Ieee.{Float, binary64, add, mul, div, ofInt, ofBits}
+use lib.Ieee.{Float, binary64, add, mul, div, ofBits}
 use Rattle.paper.specs.Outcome.{Outcome, given, refused, unless, andThen, both}
 use Rattle.calendar.specs.Dates.{isDate, isBefore}
 use Rattle.calendar.specs.declared.Date.{Date}

@@ -16,7 +16,6 @@ use Rattle.calendar.proofs.Order.{before-days, days-before, month-date}
 use Rattle.date_step.specs.Steps.{monthsLater}
 use Rattle.date_step.proofs.Steps.{lands-at}
 use Rattle.time_period.specs.declared.TimePeriod.{TimePeriod}
-use Rattle.time_period.specs.Steps.{monthsStep}
 use Rattle.icma.specs.Walk.{step, negated, from, turnOn, walkOn, turnBack, walkBack, baseFrom, firstPart, lastPart, toLast, toEnd, toFirst, longParts, partsFrom, icmaParts}
 use Rattle.icma.specs.declared.Broken.the-variants.{Nothing}
 use Rattle.icma.specs.declared.Parts.the-variants.{Long}
@@ -74,12 +73,12 @@ uncut : (i d : ℕ) → 1 ≤ d → d ≤ 28 → i ≤ 119987 → monthDate i d 
 unfolding monthDate
 uncut i d h k l = omega (arith, at-least (i / 12 + 1) (i % 12 + 1) (omega arith) (omega arith))
 
-one-uncut : (n : ℕ) (t : Date) → monthIndex t + n ≤ 119987 → monthsStep (pos n) t ≡ given (monthDate (monthIndex t + n) (t .day))
-unfolding monthsStep monthsLater
+one-uncut : (n : ℕ) (t : Date) → monthIndex t + n ≤ 119987 → monthsLater t (pos n) ≡ given (monthDate (monthIndex t + n) (t .day))
+unfolding monthsLater
 one-uncut n t h = rw (lands-at 119987 (monthIndex t + n) h)
 
 -- where steps do not clip, the walk's dates are the roll date plus k periods
-pub uncut-steps : (n k : ℕ) (t : Date) → isDate t ≡ true → t .day ≤ 28 → monthIndex t + suc k * n ≤ 119987 → steps (suc k) (monthsStep (pos n)) t ≡ given (monthDate (monthIndex t + suc k * n) (t .day))
+pub uncut-steps : (n k : ℕ) (t : Date) → isDate t ≡ true → t .day ≤ 28 → monthIndex t + suc k * n ≤ 119987 → steps (suc k) (λ u. monthsLater u (pos n)) t ≡ given (monthDate (monthIndex t + suc k * n) (t .day))
 unfolding steps
 uncut-steps n zero t d h l =
     let q : suc zero * n ≡ n = omega (arith, suc-mul 0 n) in

@@ -213,9 +213,6 @@ module _ (p : TimePeriod) (n : ℕ) (is : p .num ≡ pos n) (some : 1 ≤ months
           omega arith
 
   -- the count, times the months of a period, is at most the months walked
-  picked : (b : Bool) (c : ℕ) → pick b c (c + 1) ≤ c + 1
-  picked true c = omega arith
-  picked false c = omega arith
 
   times : (k c d : ℕ) → c ≤ d + 1 → k * c ≤ k * d + k
   times k c d h = omega (arith, mul-le-mul-left k h, mul-add k d 1)

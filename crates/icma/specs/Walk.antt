@@ -2,7 +2,7 @@
 -- Assumes nothing.
 use Prim.Native.Nat.{ℕ, zero, suc, _+_, _-_}
 use mathlib.Core.Bool.{Bool, true, false}
-use lib.IntN.{ℤ, pos, negℤ, _-ℤ_}
+use lib.IntN.{pos, negℤ, _-ℤ_}
 use Rattle.paper.specs.Outcome.{Outcome, given, refused, andThen, pick}
 use Rattle.calendar.specs.Dates.{isBefore, dayNumber}
 use Rattle.calendar.specs.declared.Date.{Date}

@@ -32,6 +32,10 @@ pub digit-bounds : (b : ℕ) → isDigit b ≡ true → (48 ≤ b) × (b ≤ 57)
 unfolding isDigit
 digit-bounds b e = let p = both-true (leb 48 b) (leb b 57) e in (leb-true 48 b (p .0), leb-true b 57 (p .1))
 
+-- the rest from place i on begins with its byte
+pub byte-first : (s : List ℕ) (i : ℕ) → i < length s → drop i s ≡ getD s i 0 ∷ drop (i + 1) s
+byte-first s i h = rw (add-one i) (drop-cons s i 0 h)
+
 -- ---- what comes out where the number v is read and the text s is left
 
 unfoldable pub remaining : ℕ → ℕ → ℕ → List ℕ → Outcome ℕ
@@ -58,7 +62,7 @@ unfolding remaining allDigits
 bad-first most n v b s e = rw (e)
 
 pub remaining-bad : (most n v k : ℕ) (s : List ℕ) (z : Outcome ℕ) → remaining most n v (drop k s) ≡ z → k < length s → isDigit (getD s k 0) ≡ false → refused n ≡ z
-remaining-bad most n v k s z e h f = sym (bad-first most n v (getD s k 0) (drop (suc k) s) f) ∙ rw (drop-cons s k 0 h) at e
+remaining-bad most n v k s z e h f = sym (bad-first most n v (getD s k 0) (drop (k + 1) s) f) ∙ rw (byte-first s k h) at e
 
 -- a digit more
 digit-first : (most n v b : ℕ) (s : List ℕ) → isDigit b ≡ true → remaining most n v (b ∷ s) ≡ remaining most n (v * 10 + (b - 48)) s
@@ -66,7 +70,7 @@ unfolding remaining allDigits continued
 digit-first most n v b s e = rw (e)
 
 pub remaining-more : (most n v k : ℕ) (s : List ℕ) (z : Outcome ℕ) → remaining most n v (drop k s) ≡ z → k < length s → isDigit (getD s k 0) ≡ true → remaining most n (v * 10 + (getD s k 0 - 48)) (drop (k + 1) s) ≡ z
-remaining-more most n v k s z e h f = rw (add-one) (sym (digit-first most n v (getD s k 0) (drop (suc k) s) f) ∙ rw (drop-cons s k 0 h) at e)
+remaining-more most n v k s z e h f = sym (digit-first most n v (getD s k 0) (drop (k + 1) s) f) ∙ rw (byte-first s k h) at e
 
 -- what is past the limit stays past it
 unless-both : (b : Bool) (n v : ℕ) → unless b n (unless false n (given v)) ≡ refused n

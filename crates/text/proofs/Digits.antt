@@ -140,7 +140,7 @@ decimal-some (b ∷ s) h e = e
 pub digits-decimal : (k n : ℕ) → 1 ≤ k → isDecimal (digits k n) ≡ true
 digits-decimal k n h = decimal-some (digits k n) (omega (arith, length-digits k n)) (digits-all k n)
 
-pow-some : (k : ℕ) → 0 < 10 ^ k
+pub pow-some : (k : ℕ) → 0 < 10 ^ k
 pow-some zero = omega arith
 pow-some (suc k) = omega (arith, pow-suc 10 k, pow-some k)
 

@@ -4,7 +4,7 @@ ghost use Prim.Native.Nat.{_+_, _≤_};
 ghost use lib.ListN.{length, replicate};
 ghost use lib.IntN.{pos, negℤ, natAbs};
 ghost use Rattle.text.specs.Reading.{belowZero, fromZero, signedOutcome, ReadsDecimal, ReadsUnsigned, ReadsSigned};
-ghost use Rattle.text.specs.Writing.{digits, decimalText, paddedText, signText, signedText, isNegative, Wrote, Written, lengthOutcome, TakesDecimal, TakesPadded, TakesSigned};
+ghost use Rattle.text.specs.Writing.{digits, decimalText, paddedText, signText, signedText, Wrote, Written, lengthOutcome, TakesDecimal, TakesPadded, TakesSigned};
 
 pub enum NumberAnswer {
     Number(u32),
@@ -124,13 +124,14 @@ pub fn padded_length(n: u64, width: usize) -> usize
     if k < width { width } else { k }
 }
 
-fn magnitude(n: i32) -> u64
+// A number without its sign; the least number has one too: 2,147,483,648.
+pub fn magnitude(n: i32) -> u32
     ensures { λ r. ⌜ r ≡ natAbs n ⌝ }
 {
     if n < 0 {
-        (0 - n as i64) as u64
+        (0 - n as i64) as u32
     } else {
-        n as u64
+        n as u32
     }
 }
 
@@ -138,7 +139,7 @@ fn magnitude(n: i32) -> u64
 pub fn signed_length(n: i32) -> usize
     ensures { λ r. ⌜ TakesSigned n r ⌝ }
 {
-    let k = decimal_length(magnitude(n));
+    let k = decimal_length(magnitude(n) as u64);
     if n < 0 { k + 1 } else { k }
 }
 
@@ -218,7 +219,7 @@ pub fn put_signed(n: i32, out: &mut [u8], at: usize) -> usize
     ensures { λ r. ⌜ Wrote (now (out .entry)) (now (out .exit)) at (signedText n) r ⌝ }
 {
     let first = put_sign(n < 0, out, at);
-    put_decimal(magnitude(n), out, first)
+    put_decimal(magnitude(n) as u64, out, first)
 }
 
 // What `Display` of a u32 writes.

@@ -15,7 +15,7 @@ use Rattle.date_step.specs.Steps.{landing, monthsLater, existingDate, yearsLate
 use Rattle.holidays.specs.Table.{ascendsFrom, isTable, listed}
 use Rattle.holidays.specs.Business.{isWeekend, isBusiness, firstOf, nextFrom, lastOf, prevFrom, repeated}
 use Rattle.time_period.specs.Periods.{unitOf as unitOfByte, numberPart, periodOf, periodText, monthsFrequency, yearsFrequency, frequencyOf}
-use Rattle.time_period.specs.Steps.{absent, table, daysStep, weeksStep, monthsStep, yearsStep, businessStep, inverseOf, addTo, subFrom}
+use Rattle.time_period.specs.Steps.{absent, table, businessStep, inverseOf, addTo, subFrom}
 use Rattle.time_period.specs.declared.TimePeriodUnit.{TimePeriodUnit}
 use Rattle.time_period.specs.declared.TimePeriodUnit.the-variants.{Daily, BusinessDaily, Weekly, Monthly, Annual}
 use Rattle.time_period.specs.declared.TimePeriod.{TimePeriod}
@@ -37,7 +37,7 @@ pub record Card : Type 0 where
   pub fifteen-off : subFrom (of (pos 15) Monthly) absent (on 2021 3 15) ≡ given (on 2019 12 15)
 
 pub card : Card
-unfolding leap lengthIn monthLength isDate monthDate landing monthsLater existingDate yearsLater monthsStep yearsStep inverseOf addTo subFrom
+unfolding leap lengthIn monthLength isDate monthDate landing monthsLater existingDate yearsLater inverseOf addTo subFrom
 card = record { a = refl; b = refl; c = refl; d = refl; f = refl; fifteen-back = refl; fifteen-off = refl }
 
 -- the calendar's end, the least number, and the order: 1 for the date, 4, 12, 13
@@ -55,7 +55,7 @@ pub record Refusals : Type 0 where
   pub least-before-bad-table : subFrom (of (negsuc 2147483647) Monthly) (table (8 ∷ 7 ∷ [])) (on 2021 1 1) ≡ refused 4
 
 pub refusals : Refusals
-unfolding leap lengthIn monthLength yearLength before isDate dayNumber landing daysLater daysStep weeksStep businessStep ascendsFrom isTable inverseOf addTo subFrom
+unfolding leap lengthIn monthLength yearLength before isDate dayNumber landing daysLater businessStep ascendsFrom isTable inverseOf addTo subFrom
 refusals =
     record {
       a-day-past = refl;

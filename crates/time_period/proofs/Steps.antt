@@ -18,7 +18,7 @@ use Rattle.calendar.proofs.Dates.{IsDate, date-yes, day-yes, day-is, number-fro
 use Rattle.calendar.proofs.Order.{month-order}
 use Rattle.date_step.specs.Steps.{landing, monthsLater, addMonths, existingDate, yearsLater, addYears, daysLater, addDays}
 use Rattle.holidays.specs.Business.{on, isBusiness}
-use Rattle.time_period.specs.Steps.{Holidays, absent, table, daysStep, weeksStep, monthsStep, yearsStep, businessDay, businessStep, unitStep, stepped, isLeast, inverseOf, served, accepted, addTo, subFrom}
+use Rattle.time_period.specs.Steps.{Holidays, absent, table, businessDay, businessStep, unitStep, stepped, isLeast, inverseOf, served, accepted, addTo, subFrom}
 use Rattle.time_period.specs.declared.TimePeriodUnit.{TimePeriodUnit}
 use Rattle.time_period.specs.declared.TimePeriodUnit.the-variants.{Daily, BusinessDaily, Weekly, Monthly, Annual}
 use Rattle.time_period.specs.declared.TimePeriod.{TimePeriod}
@@ -30,22 +30,18 @@ use Rattle.time_period.proofs.Signs.{seven-on, seven-back, negative-bac
 -- ---- what each unit keeps
 
 module _ (n : ℤ) (t u : Date) (d : isDate t ≡ true) where
-  pub days-step : daysStep n t ≡ given u → DaysOn t n u
-  unfolding daysStep addDays
+  pub days-step : daysLater t n ≡ given u → DaysOn t n u
+  unfolding addDays
   days-step e = days-on t n u (rw d e)
 
-  pub weeks-step : weeksStep n t ≡ given u → DaysOn t (pos 7 *ℤ n) u
-  unfolding weeksStep addDays
-  weeks-step e = days-on t (pos 7 *ℤ n) u (rw d e)
-
   -- the month's number moves by n, and the day is cut to the month's last
-  pub months-step : monthsStep n t ≡ given u → MonthsOn t n u
-  unfolding monthsStep addMonths
+  pub months-step : monthsLater t n ≡ given u → MonthsOn t n u
+  unfolding addMonths
   months-step e = months-on t n u (rw d e)
 
   -- the year moves by n
-  pub years-step : yearsStep n t ≡ given u → YearsOn t n u
-  unfolding yearsStep addYears
+  pub years-step : yearsLater t n ≡ given u → YearsOn t n u
+  unfolding addYears
   years-step e = years-on t n u (rw d e)
 
 -- n business days on: the day that the search over the table finds
@@ -144,14 +140,14 @@ module _ (n : ℤ) (t u : Date) where
   unit-later : (v : TimePeriodUnit) (h : Holidays) → isDate t ≡ true → ltZ (pos 0) n ≡ true → unitStep v n h t ≡ given u → LaterDate t u
   unit-later Daily h d s e = days-later-date n t u s (days-step n t u d e)
   unit-later BusinessDaily h d s e = business-later-date h s e
-  unit-later Weekly h d s e = days-later-date (pos 7 *ℤ n) t u (seven-on n s) (weeks-step n t u d e)
+  unit-later Weekly h d s e = days-later-date (pos 7 *ℤ n) t u (seven-on n s) (days-step (pos 7 *ℤ n) t u d e)
   unit-later Monthly h d s e = months-later-date n t u s (months-step n t u d e)
   unit-later Annual h d s e = years-later-date n t u s (years-step n t u d e)
 
   unit-earlier : (v : TimePeriodUnit) (h : Holidays) → isDate t ≡ true → ltZ n (pos 0) ≡ true → unitStep v n h t ≡ given u → EarlierDate t u
   unit-earlier Daily h d s e = days-earlier-date n t u s (days-step n t u d e)
   unit-earlier BusinessDaily h d s e = business-earlier-date h s e
-  unit-earlier Weekly h d s e = days-earlier-date (pos 7 *ℤ n) t u (seven-back n s) (weeks-step n t u d e)
+  unit-earlier Weekly h d s e = days-earlier-date (pos 7 *ℤ n) t u (seven-back n s) (days-step (pos 7 *ℤ n) t u d e)
   unit-earlier Monthly h d s e = months-earlier-date n t u s (months-step n t u d e)
   unit-earlier Annual h d s e = years-earlier-date n t u s (years-step n t u d e)
 
@@ -160,7 +156,7 @@ module _ (n : ℤ) (t u : Date) where
   unit-dated Daily h d e = days-step n t u d e .dated
   unit-dated BusinessDaily absent d e = absurd (given-not-refused (sym e))
   unit-dated BusinessDaily (table h) d e = business-step h n t u e .dated
-  unit-dated Weekly h d e = weeks-step n t u d e .dated
+  unit-dated Weekly h d e = days-step (pos 7 *ℤ n) t u d e .dated
   unit-dated Monthly h d e = months-step n t u d e .dated
   unit-dated Annual h d e = years-step n t u d e .dated
 
@@ -187,7 +183,7 @@ module _ (p : TimePeriod) (h : Holidays) (t u : Date) (d : isDate t ≡ true) (e
         later = λ s. unit-later (p .num) t u (p .unit) h d s e .later;
         earlier = λ s. unit-earlier (p .num) t u (p .unit) h d s e .earlier;
         days = λ q. days-step (p .num) t u d (of-unit Daily q);
-        weeks = λ q. weeks-step (p .num) t u d (of-unit Weekly q);
+        weeks = λ q. days-step (pos 7 *ℤ p .num) t u d (of-unit Weekly q);
         months = λ q. months-step (p .num) t u d (of-unit Monthly q);
         years = λ q. years-step (p .num) t u d (of-unit Annual q);
         business = λ q l r. business-step l (p .num) t u (ap (λ (g : Holidays). businessStep (p .num) g t) (sym r) ∙ of-unit BusinessDaily q);
@@ -225,7 +221,7 @@ only-business h (pos k) d m e = later-refuses h k d m e
 only-business h (negsuc k) d m e = earlier-refuses h (suc k) d m e
 
 unit-refuses : (v : TimePeriodUnit) (n : ℤ) (h : Holidays) (t : Date) → served v h ≡ true → OnlyOne (unitStep v n h t)
-unfolding daysStep weeksStep monthsStep yearsStep businessStep monthsLater yearsLater existingDate
+unfolding businessStep monthsLater yearsLater existingDate
 unit-refuses Daily n h t s = only-days t n
 unit-refuses BusinessDaily n absent t s = absurd (let w : _≡_ {A = ℕ} 0 1 = cc in omega arith)
 unit-refuses BusinessDaily n (table h) t s = only-then (businessDay h n (dayNumber t)) dateOf (only-business h n (dayNumber t)) only-date

@@ -26,21 +26,6 @@ pub data Holidays : Type 0 where
   absent : Holidays
   table : List ℕ → Holidays
 
--- days and weeks add 1 and 7 days each
-unfoldable pub daysStep : ℤ → Date → Outcome Date
-daysStep n t = daysLater t n
-
-unfoldable pub weeksStep : ℤ → Date → Outcome Date
-weeksStep n t = daysLater t (pos 7 *ℤ n)
-
--- months: move the month, then cut the day to the month's last
-unfoldable pub monthsStep : ℤ → Date → Outcome Date
-monthsStep n t = monthsLater t n
-
--- years: the same month and day, refused if absent
-unfoldable pub yearsStep : ℤ → Date → Outcome Date
-yearsStep n t = yearsLater t n
-
 -- B steps over business days, back for a negative number
 abbrev pub businessDay : List ℕ → ℤ → ℕ → Outcome Day
 businessDay h (pos k) d = laterFrom h k d
@@ -51,13 +36,13 @@ unfoldable pub businessStep : ℤ → Holidays → Date → Outcome Date
 businessStep n absent t = refused 12
 businessStep n (table h) t = andThen (businessDay h n (dayNumber t)) dateOf
 
--- the step that the unit names
+-- the step that the unit names: days and weeks add 1 and 7 days each
 abbrev pub unitStep : TimePeriodUnit → ℤ → Holidays → Date → Outcome Date
-unitStep Daily n h t = daysStep n t
+unitStep Daily n h t = daysLater t n
 unitStep BusinessDaily n h t = businessStep n h t
-unitStep Weekly n h t = weeksStep n t
-unitStep Monthly n h t = monthsStep n t
-unitStep Annual n h t = yearsStep n t
+unitStep Weekly n h t = daysLater t (pos 7 *ℤ n)
+unitStep Monthly n h t = monthsLater t n
+unitStep Annual n h t = yearsLater t n
 
 abbrev pub stepped : TimePeriod → Holidays → Date → Outcome Date
 stepped p h t = unitStep (p .unit) (p .num) h t

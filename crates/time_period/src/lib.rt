@@ -3,7 +3,6 @@ ghost use mathlib.Core.Path.{_≡_};
 ghost use mathlib.Core.Bool.{true};
 ghost use Prim.Native.Nat.{_≤_};
 ghost use lib.ListN.{length};
-ghost use lib.IntN.{natAbs};
 ghost use Rattle.paper.specs.Outcome.{andThen};
 ghost use Rattle.text.specs.Writing.{lengthOutcome, Written, Wrote};
 ghost use Rattle.calendar.specs.Dates.{isDate};
@@ -114,17 +113,6 @@ pub fn write_period(p: TimePeriod, out: &mut [u8]) -> LengthAnswer
     LengthAnswer::Length(put_text(p, out))
 }
 
-// The least number has a magnitude too: 2,147,483,648.
-fn magnitude(n: i32) -> u32
-    ensures { λ r. ⌜ r ≡ natAbs n ⌝ }
-{
-    if n < 0 {
-        (0 - n as i64) as u32
-    } else {
-        n as u32
-    }
-}
-
 fn months_frequency(n: u32) -> FrequencyAnswer
     ensures { λ r. ⌜ frequencyOutcome r ≡ monthsFrequency n ⌝ }
 {
@@ -155,8 +143,8 @@ pub fn frequency(p: TimePeriod) -> FrequencyAnswer
         TimePeriodUnit::Daily | TimePeriodUnit::BusinessDaily | TimePeriodUnit::Weekly => {
             FrequencyAnswer::Refused(paper::NO_FREQUENCY)
         }
-        TimePeriodUnit::Monthly => months_frequency(magnitude(p.num)),
-        TimePeriodUnit::Annual => years_frequency(magnitude(p.num)),
+        TimePeriodUnit::Monthly => months_frequency(text::magnitude(p.num)),
+        TimePeriodUnit::Annual => years_frequency(text::magnitude(p.num)),
     }
 }
 
@@ -203,9 +191,9 @@ fn step_business(n: i32, t: Date, holidays: &[u32]) -> DateAnswer
 {
     let day = calendar::number_of(t);
     if n < 0 {
-        dated(holidays::earlier_from(day, magnitude(n), holidays))
+        dated(holidays::earlier_from(day, text::magnitude(n), holidays))
     } else {
-        dated(holidays::later_from(day, magnitude(n), holidays))
+        dated(holidays::later_from(day, text::magnitude(n), holidays))
     }
 }
 

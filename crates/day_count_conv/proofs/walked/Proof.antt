@@ -13,7 +13,8 @@ use Rattle.paper.specs.Outcome.{Outcome, given, andThen}
 use Rattle.icma.specs.Walk.{partsOutcome}
 use Rattle.day_count_conv.specs.Conventions.{partsBits, walkedFraction}
 use Rattle.icma.specs.declared.Parts.{Parts}
-use Rattle.day_count_conv.proofs.Numbers.{below-one, from-one, above-zero}
+use Rattle.day_count_conv.proofs.Numbers.{below-one, from-one}
+use Rattle.time_period.proofs.Signs.{positive}
 use Rattle.day_count_conv.proofs.walked.Statement.{statement}
 use Rattle.day_count_conv.proofs.walked.Tie as tie
 
@@ -23,8 +24,8 @@ kept c =
     let f : SFits w32 (c .before .before .args .p .num) = record { sfits = c .struct-told .given .0 .1 } in
     toZ-ofZ f
 
-positive : (c : tie.Else1) → ltZ (c .before .before .before .args .p .num) (pos 1) ≡ false
-positive c = subst (λ (z : ℤ). ltZ z (pos 1) ≡ false) (kept (c .before)) (c .if1 .left)
+at-least-one : (c : tie.Else1) → ltZ (c .before .before .before .args .p .num) (pos 1) ≡ false
+at-least-one c = subst (λ (z : ℤ). ltZ z (pos 1) ≡ false) (kept (c .before)) (c .if1 .left)
 
 returns : tie.Need-returns
 unfolding walkedFraction
@@ -33,7 +34,7 @@ returns c = rw (below-one (c .before .before .before .args .p .num) (subst (λ (
 icma-parts-requires : tie.Need-icma-parts-requires
 icma-parts-requires c κs =
     let s : tie.Start = c .before .before .before in
-    (s .pre .0, s .pre .1, s .pre .2, s .pre .3, above-zero (s .args .p .num) (positive c))
+    (s .pre .0, s .pre .1, s .pre .2, s .pre .3, positive (s .args .p .num) (at-least-one c))
 
 enum-known-parts : tie.Need-enum-known-parts
 enum-known-parts c = search needs
@@ -49,14 +50,14 @@ unfolding walkedFraction
 returns-2 c =
     let p = c .before .before in
     let s : tie.Start = c .before .before .before .before .before .before .before .before in
-    rw (from-one (s .args .p .num) (positive (c .before .before .before .before .before))) (ap {B = Outcome Float} given (c .parts-bits .ensures) ∙ sym (ap (λ (o : Outcome Parts). andThen o (λ parts. given (partsBits (s .args .frequency) parts))) (sym (p .before .before .icma-parts .ensures) ∙ ap partsOutcome (p .parts .given .1))))
+    rw (from-one (s .args .p .num) (at-least-one (c .before .before .before .before .before))) (ap {B = Outcome Float} given (c .parts-bits .ensures) ∙ sym (ap (λ (o : Outcome Parts). andThen o (λ parts. given (partsBits (s .args .frequency) parts))) (sym (p .before .before .icma-parts .ensures) ∙ ap partsOutcome (p .parts .given .1))))
 
 returns-3 : tie.Need-returns-3
 unfolding walkedFraction
 returns-3 c =
     let p = c .before in
     let s : tie.Start = c .before .before .before .before .before .before .before in
-    rw (from-one (s .args .p .num) (positive (c .before .before .before .before))) (sym (ap (λ (o : Outcome Parts). andThen o (λ parts. given (partsBits (s .args .frequency) parts))) (sym (p .before .before .icma-parts .ensures) ∙ ap partsOutcome (p .k .given .1))))
+    rw (from-one (s .args .p .num) (at-least-one (c .before .before .before .before))) (sym (ap (λ (o : Outcome Parts). andThen o (λ parts. given (partsBits (s .args .frequency) parts))) (sym (p .before .before .icma-parts .ensures) ∙ ap partsOutcome (p .k .given .1))))
 
 pub walked-spec : {M : Type 1} → statement M
 walked-spec =

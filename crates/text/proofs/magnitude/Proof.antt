@@ -3,8 +3,8 @@ use mathlib.Core.Bool.{true, false}
 use mathlib.Core.Path.{_≡_, sym, _∙_}
 use native.Mathlib.Omega.{arith}
 use lib.IntN.{pos, negℤ, _-ℤ_}
-use mir.Val.{toZ, ofZ}
 use mir.Facts.{toZ-ofZ}
+use mir.Val.{toZ, ofZ}
 use mir.Syntax.{w32, w64}
 use borrow.Author.Needs.{needs}
 use Rattle.text.specs.Writing.{isNegative}

@@ -14,6 +14,9 @@ put-sign-requires c κs = let start : tie.Start = c .before .before in sign-room
 magnitude-requires : tie.Need-magnitude-requires
 magnitude-requires c κs = search needs
 
+cast-put-decimal : tie.Need-cast-put-decimal
+cast-put-decimal c = search needs
+
 put-decimal-requires : tie.Need-put-decimal-requires
 put-decimal-requires c κs =
     let start : tie.Start = c .before .before .before .before .before .before .before in
@@ -34,4 +37,4 @@ returns c =
 pub put-signed-spec : {M : Type 1} → statement M
 put-signed-spec =
     tie.close
-    (tie.spec put-sign-requires magnitude-requires put-decimal-requires same-length returns)
+    (tie.spec put-sign-requires magnitude-requires cast-put-decimal put-decimal-requires same-length returns)

@@ -14,6 +14,9 @@ use Rattle.text.proofs.signed_length.Tie as tie
 magnitude-requires : tie.Need-magnitude-requires
 magnitude-requires c κs = search needs
 
+cast-decimal-length : tie.Need-cast-decimal-length
+cast-decimal-length c = search needs
+
 decimal-length-requires : tie.Need-decimal-length-requires
 decimal-length-requires c κs = search needs
 
@@ -28,4 +31,4 @@ returns-2 c = omega (arith, signed-length-is (c .before .before .before .args .n
 
 pub signed-length-spec : {M : Type 1} → statement M
 signed-length-spec =
-    tie.close (tie.spec magnitude-requires decimal-length-requires add-result returns returns-2)
+    tie.close (tie.spec magnitude-requires cast-decimal-length decimal-length-requires add-result returns returns-2)

@@ -4,7 +4,7 @@ use mathlib.Core.Path.{sym, _∙_, ap}
 use mir.Facts.{toZ-ofZ}
 use borrow.Author.Needs.{needs}
 use Rattle.date_step.specs.Steps.{daysLater, monthsLater, yearsLater}
-use Rattle.time_period.specs.Steps.{absent, daysStep, weeksStep, monthsStep, yearsStep, businessStep, unitStep}
+use Rattle.time_period.specs.Steps.{absent, businessStep, unitStep}
 use Rattle.time_period.specs.declared.TimePeriodUnit.{TimePeriodUnit}
 use Rattle.date_step.proofs.Landing.{wide-fits, widened}
 use Rattle.time_period.proofs.Signs.{told, weeks-fit, weeks-read}
@@ -48,7 +48,6 @@ years-later-requires : tie.Need-years-later-requires
 years-later-requires c κs = search needs
 
 returns : tie.Need-returns
-unfolding daysStep
 returns c =
     let s : tie.Start = c .before .before .before .before .before in
     c .days-later .ensures
@@ -60,7 +59,6 @@ unfolding businessStep
 returns-2 c = ap (λ (u : TimePeriodUnit). unitStep u (c .before .before .args .p .num) absent (c .before .before .args .t)) (sym (c .enum-told2 .given .1))
 
 returns-3 : tie.Need-returns-3
-unfolding weeksStep
 returns-3 c =
     let s : tie.Start = c .before .before .before .before .before in
     c .days-later2 .ensures
@@ -68,7 +66,6 @@ returns-3 c =
     ∙ ap (λ (u : TimePeriodUnit). unitStep u (s .args .p .num) absent (s .args .t)) (sym (c .before .before .before .enum-told3 .given .1))
 
 returns-4 : tie.Need-returns-4
-unfolding monthsStep
 returns-4 c =
     let s : tie.Start = c .before .before .before .before in
     c .months-later .ensures
@@ -76,7 +73,6 @@ returns-4 c =
     ∙ ap (λ (u : TimePeriodUnit). unitStep u (s .args .p .num) absent (s .args .t)) (sym (c .before .before .enum-told4 .given .1))
 
 returns-5 : tie.Need-returns-5
-unfolding yearsStep
 returns-5 c =
     let s : tie.Start = c .before .before .before .before in
     c .years-later .ensures

@@ -1,11 +1,29 @@
--- No second answer satisfies an entry point's promise.
+-- No second answer satisfies an entry point's promise; a refusal's number is never 0; and codes and conventions name each other.
 -- Assumes nothing.
 use Prim.Native.Nat.{ℕ}
-use mathlib.Core.Path.{_≡_, sym, _∙_, ap}
-use Rattle.paper.proofs.Outcomes.{given-injective, refused-injective, given-not-refused}
+use mathlib.Core.Path.{_≡_, refl, sym, _∙_, ap}
+use mathlib.Core.Bool.{not}
+use native.Mathlib.Omega.{arith}
+use lib.Dec.{ltb}
+use lib.IntN.{pos}
+use lib.Signed.{leZ}
+use Rattle.paper.specs.Outcome.{given, Numbered, both}
+use Rattle.paper.proofs.Outcomes.{given-injective, refused-injective, given-not-refused, unless-numbered, then-numbered}
+use Rattle.calendar.specs.Dates.{isDate, isBefore}
 use Rattle.calendar.specs.declared.Date.{Date}
-use Rattle.day_count_conv.specs.Conventions.{fractionOutcome, conventionOutcome, ConventionPromise, FractionPromise}
+use Rattle.time_period.specs.Periods.{frequencyOf}
+use Rattle.time_period.proofs.OneOutcome.{frequency-numbered}
+use Rattle.day_fraction.specs.Fractions.{impossible}
+use Rattle.day_fraction.specs.declared.SimpleRule.{SimpleRule}
+use Rattle.icma.specs.Walk.{icmaParts}
+use Rattle.icma.proofs.Numbered.{parts-numbered}
+use Rattle.day_count_conv.specs.Conventions.{fractionOutcome, Values, codeOf, conventionOf, conventionOutcome, ConventionPromise, simpleFraction, walkedFraction, frequentFraction, icmaFraction, byRule, rollDated, yearFraction, FractionPromise}
 use Rattle.day_count_conv.specs.declared.DayCountConv.{DayCountConv}
+use Rattle.day_count_conv.specs.declared.DayCountConv.the-variants as conv
+use Rattle.day_count_conv.specs.declared.RollDate.{RollDate}
+use Rattle.day_count_conv.specs.declared.RollDate.the-variants as roll-date
+use Rattle.day_count_conv.specs.declared.RollPeriod.{RollPeriod}
+use Rattle.day_count_conv.specs.declared.RollPeriod.the-variants as roll-period
 use Rattle.day_count_conv.specs.declared.Extras.{Extras}
 use Rattle.day_count_conv.specs.declared.YearFraction.{YearFraction}
 use Rattle.day_count_conv.specs.declared.YearFraction.the-variants as year-fraction
@@ -29,3 +47,46 @@ one-fraction rule start end x r s p q = same-fraction-answer r s (p .0 ∙ sym (
 
 pub one-convention : (n : ℕ) (r s : ConventionAnswer) → ConventionPromise n r → ConventionPromise n s → r ≡ s
 one-convention n r s p q = same-convention-answer r s (p ∙ sym q)
+
+-- the number of a refusal, whatever the rules give
+module _ {A : Type 0} (v : Values A) (start end : Date) where
+  simple-numbered : (rule : SimpleRule) → Numbered (simpleFraction v rule start end)
+  unfolding simpleFraction
+  simple-numbered rule = unless-numbered (not (impossible rule start end)) 9 _ (omega arith) (omega arith)
+
+  icma-numbered : (r : RollDate) (p : RollPeriod) → Numbered (icmaFraction v r p start end)
+  unfolding frequentFraction walkedFraction
+  icma-numbered (roll-date.Date roll) (roll-period.Period p) =
+      then-numbered (frequencyOf p) (walkedFraction v p start end roll) (frequency-numbered p)
+      (λ f. unless-numbered (leZ (pos 1) (p .num)) 14 _ (omega arith)
+      (then-numbered (icmaParts p start end roll) (λ parts. given (v .walked f parts)) (parts-numbered p start end roll) (λ parts. omega arith)))
+  icma-numbered (roll-date.Date roll) roll-period.Absent = omega arith
+  icma-numbered roll-date.Absent p = omega arith
+
+  rule-numbered : (rule : DayCountConv) (x : Extras) → Numbered (byRule v rule start end x)
+  rule-numbered conv.Act365 x = simple-numbered _
+  rule-numbered conv.Act360 x = simple-numbered _
+  rule-numbered conv.Act365l x = simple-numbered _
+  rule-numbered conv.D30_360 x = simple-numbered _
+  rule-numbered conv.D30E360 x = simple-numbered _
+  rule-numbered conv.ActActICMA x = icma-numbered (x .roll) (x .period)
+
+  pub fraction-numbered : (rule : DayCountConv) (x : Extras) → Numbered (yearFraction v rule start end x)
+  unfolding yearFraction
+  fraction-numbered rule x =
+      unless-numbered (both (isDate start) (both (isDate end) (rollDated rule (x .roll)))) 1 _ (omega arith)
+      (unless-numbered (not (isBefore end start)) 19 _ (omega arith) (rule-numbered rule x))
+
+pub convention-numbered : (n : ℕ) → Numbered (conventionOf n)
+unfolding conventionOf
+convention-numbered n = unless-numbered (ltb n 6) 18 _ (omega arith) (omega arith)
+
+-- a convention's code is read back as that convention
+pub code-back : (c : DayCountConv) → conventionOf (codeOf c) ≡ given c
+unfolding conventionOf
+code-back conv.Act365 = refl
+code-back conv.Act360 = refl
+code-back conv.Act365l = refl
+code-back conv.D30_360 = refl
+code-back conv.D30E360 = refl
+code-back conv.ActActICMA = refl

@@ -1,3 +1,4 @@
 pub mod Walking
 pub mod Sizes
 pub mod Laws
+pub mod Numbered

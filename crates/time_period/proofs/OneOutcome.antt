@@ -6,6 +6,7 @@ use mathlib.Core.Bool.{Bool, true, false, not}
 use mathlib.Core.List.{List}
 use native.Mathlib.Omega.{arith}
 use lib.Dec.{leb, eqb}
+use lib.IntN.{ℤ}
 use lib.ListN.{length, take, getD}
 use Rattle.paper.specs.Outcome.{Outcome, given, refused, Numbered, pick, unless}
 use Rattle.paper.proofs.Outcomes.{given-injective, refused-injective, given-not-refused, unless-numbered, then-numbered}
@@ -19,7 +20,8 @@ use Rattle.calendar.specs.declared.Date.{Date}
 use Rattle.calendar.specs.declared.DateAnswer.{DateAnswer}
 use Rattle.calendar.proofs.OneOutcome.{same-date-answer}
 use Rattle.time_period.specs.Periods.{periodOutcome, frequencyOutcome, unitOf, numberPart, periodOf, periodText, frequencyOf, ReadPromise, FrequencyPromise}
-use Rattle.time_period.specs.Steps.{Holidays, stepped, isLeast, inverseOf, served, accepted, judgedStep, addTo, subFrom, InversePromise, AddPromise, SubPromise}
+use Rattle.time_period.specs.Steps.{Holidays, absent, businessStep, unitStep, stepped, isLeast, inverseOf, served, accepted, judgedStep, addTo, subFrom, InversePromise, AddPromise, SubPromise}
+use Rattle.time_period.specs.declared.TimePeriodUnit.{TimePeriodUnit}
 use Rattle.time_period.specs.declared.TimePeriodUnit.the-variants.{Daily, BusinessDaily, Weekly, Monthly, Annual}
 use Rattle.time_period.specs.declared.TimePeriod.{TimePeriod}
 use Rattle.time_period.specs.declared.PeriodAnswer.{PeriodAnswer}
@@ -101,6 +103,15 @@ judged-numbered p h t = by (served (p .unit) h) refl
     by : (b : Bool) → served (p .unit) h ≡ b → Numbered (unless b 12 (unless (accepted h) 13 (stepped p h t)))
     by true e = unless-numbered (accepted h) 13 _ (omega arith) (numbered-by 1 (omega arith) (stepped p h t) (step-refuses p h t e))
     by false e = omega arith
+
+-- a step without a table: 12 for B, 1 for the others
+pub step-numbered : (u : TimePeriodUnit) (n : ℤ) (t : Date) → Numbered (unitStep u n absent t)
+unfolding businessStep
+step-numbered BusinessDaily n t = omega arith
+step-numbered Daily n t = numbered-by 1 (omega arith) _ (step-refuses (record { num = n; unit = Daily }) absent t refl)
+step-numbered Weekly n t = numbered-by 1 (omega arith) _ (step-refuses (record { num = n; unit = Weekly }) absent t refl)
+step-numbered Monthly n t = numbered-by 1 (omega arith) _ (step-refuses (record { num = n; unit = Monthly }) absent t refl)
+step-numbered Annual n t = numbered-by 1 (omega arith) _ (step-refuses (record { num = n; unit = Annual }) absent t refl)
 
 pub add-numbered : (p : TimePeriod) (h : Holidays) (t : Date) → Numbered (addTo p h t)
 unfolding addTo

@@ -1,2 +1,3 @@
 pub mod Later
 pub mod Columns
+pub mod Records

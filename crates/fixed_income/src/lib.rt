@@ -5,7 +5,7 @@ ghost use lib.ListN.{length};
 ghost use Rattle.room.specs.Room.{counted};
 ghost use Rattle.cash_flow.specs.Flows.{flowsOutcome};
 ghost use Rattle.fixed_income.specs.After.{hasDate, isLater, listed};
-ghost use Rattle.fixed_income.specs.Promises.{isRefused, shortest, daysWritten, listedWritten, ListedContents, ListedPromise};
+ghost use Rattle.fixed_income.specs.Promises.{isRefused, shortest, daysWritten, listedWritten, recordsWritten, ListedContents, ListedPromise, AfterPromise};
 use calendar::Date;
 use calendar::Day;
 use cash_flow::CashFlow;
@@ -122,4 +122,50 @@ fn is_later(flow: CashFlow, date: Date) -> bool
     ensures { λ r. ⌜ r ≡ isLater date flow ⌝ }
 {
     calendar::is_before(date, flow.date)
+}
+
+// The first pass over records: it judges every date and counts the later ones, and writes nothing.
+fn answer_after(flows: &[CashFlow], date: Date, places: usize) -> FlowsAnswer
+    ensures { λ r. ⌜ flowsOutcome r ≡ counted (recordsWritten (now (flows .entry)) date places) ⌝ }
+{
+    if !calendar::is_date(date) {
+        return FlowsAnswer::Refused(paper::INVALID_DATE);
+    }
+    let mut n: usize = 0;
+    let mut i: usize = 0;
+    while i < flows.len() {
+        let flow = flows[i];
+        if !has_date(flow) {
+            return FlowsAnswer::Refused(paper::INVALID_DATE);
+        }
+        if is_later(flow, date) {
+            n += 1;
+        }
+        i += 1;
+    }
+    if places < n {
+        return FlowsAnswer::Refused(paper::TOO_FEW_PLACES);
+    }
+    FlowsAnswer::Flows(n)
+}
+
+// Flows strictly later than a date, in order.
+pub fn get_cash_flows_after(flows: &[CashFlow], date: Date, room: &mut [CashFlow]) -> FlowsAnswer
+    ensures { λ r. ⌜ AfterPromise (now (flows .entry)) date (now (room .entry)) r (now (room .exit)) ⌝ }
+{
+    let answer = answer_after(flows, date, room.len());
+    if is_refused(answer) {
+        return answer;
+    }
+    let mut k: usize = 0;
+    let mut i: usize = 0;
+    while i < flows.len() {
+        let flow = flows[i];
+        if is_later(flow, date) {
+            room[k] = flow;
+            k += 1;
+        }
+        i += 1;
+    }
+    answer
 }

@@ -5,7 +5,6 @@ use mathlib.Core.Path.{_≡_, refl, sym, ap, _∙_}
 use mathlib.Core.Bool.{Bool, true, false, not}
 use mathlib.Core.List.{List, _∷_}
 use native.Mathlib.Omega.{arith}
-use mir.Syntax.{Body, skip, seq, assign, block, loop, cond, switch, exit, return, call}
 use lib.Dec.{T}
 use lib.Ieee.{nan}
 use lib.ListN.{length, getD, drop, set}
@@ -20,19 +19,6 @@ use Rattle.cash_flow.specs.declared.FlowsAnswer.the-variants.{Flows, Refused}
 use Rattle.fixed_income.specs.After.{laterOf, hasDate, isLater, flowsAfter}
 use Rattle.fixed_income.specs.Promises.{isRefused, recordsWritten, AfterPromise}
 use Rattle.fixed_income.proofs.Later.{head-at, Passed, passed-none, passed-yes, passed-no, passed-fits, Judging, judging-none, judging-yes, judging-no, undated, undated-flow, too-few, enough, kept, unrefused, Column, column-none, column-yes, column-no, column-all}
-
--- what follows the first part of a sequence: by it a walk names a piece of the code, and does not write it out
-abbrev pub rest-of : Body → Body
-rest-of skip = skip
-rest-of (seq a b) = b
-rest-of (assign p r) = skip
-rest-of (block b) = skip
-rest-of (loop b) = skip
-rest-of (cond c a b) = skip
-rest-of (switch c as′) = skip
-rest-of (exit n) = skip
-rest-of return = skip
-rest-of (call f xs p) = skip
 
 -- what a test that was taken says
 pub held : (t : Bool) → T t → t ≡ true

@@ -34,7 +34,7 @@ fn answer_listed(day: Day, days: &[u32], places: usize) -> FlowsAnswer
     if !calendar::is_day(day) {
         return FlowsAnswer::Refused(paper::INVALID_DATE);
     }
-    let mut n: usize = 0;
+    let mut count: usize = 0;
     let mut i: usize = 0;
     while i < days.len() {
         let d = days[i];
@@ -42,14 +42,14 @@ fn answer_listed(day: Day, days: &[u32], places: usize) -> FlowsAnswer
             return FlowsAnswer::Refused(paper::INVALID_DATE);
         }
         if day.0 < d {
-            n += 1;
+            count += 1;
         }
         i += 1;
     }
-    if places < n {
+    if places < count {
         return FlowsAnswer::Refused(paper::TOO_FEW_PLACES);
     }
-    FlowsAnswer::Flows(n)
+    FlowsAnswer::Flows(count)
 }
 
 // The second pass: `n` flows are looked at, and there is room for the later ones.
@@ -70,9 +70,9 @@ fn write_listed(
     let mut k: usize = 0;
     let mut i: usize = 0;
     while i < n {
-        let d = days[i];
-        if day.0 < d {
-            out_days[k] = d;
+        let due = days[i];
+        if day.0 < due {
+            out_days[k] = due;
             out_currencies[k] = currencies[i];
             out_amounts[k] = amounts[i];
             k += 1;

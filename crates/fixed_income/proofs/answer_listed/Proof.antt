@@ -16,10 +16,10 @@ use Rattle.fixed_income.proofs.answer_listed.Statement.{statement}
 use Rattle.fixed_income.proofs.answer_listed.Tie as tie
 
 abbrev Inv-loop : tie.InvT-loop
-Inv-loop day days places n₀ i₀ n i = Judging isDayNumber (isLaterDay day) days i n
+Inv-loop day days places count₀ i₀ count i = Judging isDayNumber (isLaterDay day) days i count
 
 abbrev μ-loop : tie.MeasureT-loop
-μ-loop day days places n₀ i₀ n i = length days - i
+μ-loop day days places count₀ i₀ count i = length days - i
 
 is-day-requires : tie.Need-is-day-requires Inv-loop μ-loop
 is-day-requires c κs = search needs
@@ -44,10 +44,10 @@ returns-2 : tie.Need-returns-2 Inv-loop μ-loop
 unfolding daysWritten
 returns-2 c =
     let l = c .before .before .before .before .loop in
-    undated-flow (isDay (c .before .before .before .before .before .before .before .before .args .day)) isDayNumber (isLaterDay (c .before .before .before .before .before .before .before .before .args .day)) (c .before .before .before .before .before .before .before .before .args .days .now) (c .before .before .before .before .before .before .before .before .args .places) 0 (l .i) (l .n) (c .before .before .before .loop-test .taken) (l .inv) (sym (c .before .is-day2 .ensures) ∙ not-true _ (c .if2 .taken))
+    undated-flow (isDay (c .before .before .before .before .before .before .before .before .args .day)) isDayNumber (isLaterDay (c .before .before .before .before .before .before .before .before .args .day)) (c .before .before .before .before .before .before .before .before .args .days .now) (c .before .before .before .before .before .before .before .before .args .places) 0 (l .i) (l .count) (c .before .before .before .loop-test .taken) (l .inv) (sym (c .before .is-day2 .ensures) ∙ not-true _ (c .if2 .taken))
 
-add-n : tie.Need-add-n Inv-loop μ-loop
-add-n c = omega arith
+add-count : tie.Need-add-count Inv-loop μ-loop
+add-count c = omega arith
 
 add-i : tie.Need-add-i Inv-loop μ-loop
 add-i c = omega arith
@@ -60,19 +60,19 @@ loop-again c =
     let l = c .before .before .before .before .before .before .loop in
     let d = getD (c .before .before .before .before .before .before .before .before .before .before .args .days .now) (l .i) 0 in
     let dated : isDayNumber d ≡ true = sym (c .before .before .before .is-day2 .ensures) ∙ not-false _ (c .before .before .if2 .left) in
-    ⊎-elim (λ w. rw (w .1) (judging-yes isDayNumber (isLaterDay (c .before .before .before .before .before .before .before .before .before .before .args .day)) (c .before .before .before .before .before .before .before .before .before .before .args .days .now) 0 (l .i) (l .n) (c .before .before .before .before .before .loop-test .taken) (l .inv) dated (lt-ltb _ d (w .0 .taken)))) (λ w. rw (w .1) (judging-no isDayNumber (isLaterDay (c .before .before .before .before .before .before .before .before .before .before .args .day)) (c .before .before .before .before .before .before .before .before .before .before .args .days .now) 0 (l .i) (l .n) (c .before .before .before .before .before .loop-test .taken) (l .inv) dated (le-ltb _ d (w .0 .left)))) (c .if3 .came)
+    ⊎-elim (λ w. rw (w .1) (judging-yes isDayNumber (isLaterDay (c .before .before .before .before .before .before .before .before .before .before .args .day)) (c .before .before .before .before .before .before .before .before .before .before .args .days .now) 0 (l .i) (l .count) (c .before .before .before .before .before .loop-test .taken) (l .inv) dated (lt-ltb _ d (w .0 .taken)))) (λ w. rw (w .1) (judging-no isDayNumber (isLaterDay (c .before .before .before .before .before .before .before .before .before .before .args .day)) (c .before .before .before .before .before .before .before .before .before .before .args .days .now) 0 (l .i) (l .count) (c .before .before .before .before .before .loop-test .taken) (l .inv) dated (le-ltb _ d (w .0 .left)))) (c .if3 .came)
 
 returns-3 : tie.Need-returns-3 Inv-loop μ-loop
 unfolding daysWritten
 returns-3 c =
     let l = c .before .before .loop in
-    too-few (isDay (c .before .before .before .before .before .before .args .day)) isDayNumber (isLaterDay (c .before .before .before .before .before .before .args .day)) (c .before .before .before .before .before .before .args .days .now) (c .before .before .before .before .before .before .args .places) (sym (c .before .before .before .before .is-day .ensures) ∙ not-false _ (c .before .before .before .if1 .left)) (l .i) (l .n) (c .before .loop-test .left) (l .inv) (c .if4 .taken)
+    too-few (isDay (c .before .before .before .before .before .before .args .day)) isDayNumber (isLaterDay (c .before .before .before .before .before .before .args .day)) (c .before .before .before .before .before .before .args .days .now) (c .before .before .before .before .before .before .args .places) (sym (c .before .before .before .before .is-day .ensures) ∙ not-false _ (c .before .before .before .if1 .left)) (l .i) (l .count) (c .before .loop-test .left) (l .inv) (c .if4 .taken)
 
 returns-4 : tie.Need-returns-4 Inv-loop μ-loop
 unfolding daysWritten
 returns-4 c =
     let l = c .before .before .loop in
-    enough (isDay (c .before .before .before .before .before .before .args .day)) isDayNumber (isLaterDay (c .before .before .before .before .before .before .args .day)) (c .before .before .before .before .before .before .args .days .now) (c .before .before .before .before .before .before .args .places) (sym (c .before .before .before .before .is-day .ensures) ∙ not-false _ (c .before .before .before .if1 .left)) (l .i) (l .n) (c .before .loop-test .left) (l .inv) (c .if4 .left)
+    enough (isDay (c .before .before .before .before .before .before .args .day)) isDayNumber (isLaterDay (c .before .before .before .before .before .before .args .day)) (c .before .before .before .before .before .before .args .days .now) (c .before .before .before .before .before .before .args .places) (sym (c .before .before .before .before .is-day .ensures) ∙ not-false _ (c .before .before .before .if1 .left)) (l .i) (l .count) (c .before .loop-test .left) (l .inv) (c .if4 .left)
 
 pub answer-listed-spec : {M : Type 1} → statement M
 answer-listed-spec =
@@ -87,7 +87,7 @@ answer-listed-spec =
     shared-slice-read-d
     is-day-requires-2
     returns-2
-    add-n
+    add-count
     add-i
     loop-less
     loop-again

@@ -32,11 +32,11 @@ module _ (c : tie.In-loop Inv-loop μ-loop) where
       let h = inside in
       (omega arith, omega arith, omega arith)
 
-mul-d : tie.Need-mul-d Inv-loop μ-loop
-mul-d c = let h = readable c in omega arith
+mul-due : tie.Need-mul-due Inv-loop μ-loop
+mul-due c = let h = readable c in omega arith
 
-shared-slice-read-d : tie.Need-shared-slice-read-d Inv-loop μ-loop
-shared-slice-read-d c = readable (c .before) .0
+shared-slice-read-due : tie.Need-shared-slice-read-due Inv-loop μ-loop
+shared-slice-read-due c = readable (c .before) .0
 
 writable : (c : tie.Then1 Inv-loop μ-loop) → (c .before .before .before .before .loop .k < length (c .before .before .before .before .loop .out-days)) × (c .before .before .before .before .loop .k < length (c .before .before .before .before .loop .out-currencies)) × (c .before .before .before .before .loop .k < length (c .before .before .before .before .loop .out-amounts))
 writable c =
@@ -111,8 +111,8 @@ write-listed-spec =
     Inv-loop
     μ-loop
     loop-holds
-    mul-d
-    shared-slice-read-d
+    mul-due
+    shared-slice-read-due
     mul-out-days
     slice-write-out-days
     mul-out-currencies

@@ -281,6 +281,45 @@ pub field-whole : (s : List ℕ) (at w n p : ℕ) → n ≡ bytesNumber s (at / 
 field-whole s at w n p e f h =
     rw (e, f) (field-read s at w (at / 8) ((at + w + 7) / 8 - at / 8) ((at + w + 7) / 8 * 8 - at - w) (omega arith) (omega arith) (omega arith))
 
+-- a field in two, where both are there
+pub field-join : (s : List ℕ) (at a b : ℕ) → at + a + b ≤ 8 * length s → field s at (a + b) ≡ field s at a * 2 ^ b + field s (at + a) b
+unfolding field
+field-join s at a b h =
+    let B : List ℕ = drop at (bitsOf s) in
+    let size : length B ≡ 8 * length s - at = length-drop at (bitsOf s) ∙ ap (λ (n : ℕ). n - at) (length-bits s) in
+    let tail : drop a B ≡ drop (at + a) (bitsOf s) = drop-drop a at (bitsOf s) in
+    let long : length (take b (drop a B)) ≡ b = length-take-le b (drop a B) (omega (arith, length-drop a B)) in
+    ap bitsNumber (take-add a b B)
+    ∙ number-append (take a B) (take b (drop a B))
+    ∙ ap (λ (n : ℕ). bitsNumber (take a B) * 2 ^ n + bitsNumber (take b (drop a B))) long
+    ∙ ap (λ (t : List ℕ). bitsNumber (take a B) * 2 ^ b + bitsNumber (take b t)) tail
+
+-- a field is below its power of two
+pub field-below : (s : List ℕ) (at w : ℕ) → at + w ≤ 8 * length s → field s at w < 2 ^ w
+unfolding field
+field-below s at w h =
+    let B : List ℕ = drop at (bitsOf s) in
+    let size : length (take w B) ≡ w = length-take-le w B (omega (arith, length-drop at (bitsOf s), length-bits s)) in
+    subst (λ (n : ℕ). bitsNumber (take w B) < 2 ^ n) size (number-below (take w B) (bits-take w B (bits-drop at (bitsOf s) (bits-are s))))
+
+-- and the bits from a place on begin with those of its number
+pub field-at : (s : List ℕ) (at w : ℕ) → at + w ≤ 8 * length s → drop at (bitsOf s) ≡ fieldBits w (field s at w) ++ drop (at + w) (bitsOf s)
+unfolding field
+field-at s at w h =
+    let B : List ℕ = drop at (bitsOf s) in
+    let size : length (take w B) ≡ w = length-take-le w B (omega (arith, length-drop at (bitsOf s), length-bits s)) in
+    let first : fieldBits w (bitsNumber (take w B)) ≡ take w B = ap (λ (n : ℕ). fieldBits n (bitsNumber (take w B))) (sym size) ∙ field-number (take w B) (bits-take w B (bits-drop at (bitsOf s) (bits-are s))) in
+    sym (take-append-drop w B) ∙ rw (first) (ap (λ (t : List ℕ). take w B ++ t) (drop-drop w at (bitsOf s)))
+
+-- a number that was put at a place is read there
+pub field-found : (s : List ℕ) (at w x : ℕ) (before behind : List ℕ) → bitsOf s ≡ before ++ (fieldBits w x ++ behind) → length before ≡ at → x < 2 ^ w → field s at w ≡ x
+unfolding field
+field-found s at w x before behind e l h =
+    let there : drop at (bitsOf s) ≡ fieldBits w x ++ behind = ap (drop at) e ∙ drop-at before (fieldBits w x ++ behind) at l in
+    ap (λ (t : List ℕ). bitsNumber (take w t)) there
+    ∙ ap bitsNumber (take-at (fieldBits w x) behind w (length-field w x))
+    ∙ number-field w x h
+
 -- ---- the machine's form
 
 pub shifted-one : (p : ℕ) → p < 64 → 1 * 2 ^ p % 18446744073709551616 ≡ 2 ^ p

@@ -36,12 +36,12 @@ neg-units f q k = go (ltb (q * 2 ^ k) (2 ^ (low f + suc (emax f))))
     go true = neg-odd (suc (prec f)) q k (low f)
     go false = refl
 
-pub neg-round : (f : Format) (n d : ℕ) → neg (round f false n d) ≡ round f true n d
+neg-round : (f : Format) (n d : ℕ) → neg (round f false n d) ≡ round f true n d
 neg-round f n d = ap neg (round-is f false n d) ∙ neg-units f (kept (prec f) (n * 2 ^ low f) d) (drop (prec f) (n * 2 ^ low f) d) ∙ sym (round-is f true n d)
 
 -- ---- a number by its value a / c
 
-pub away-of-value : (v : Float) (s : Bool) (a c : ℕ) → 0 < c → HasValue v s a c → round binary64 s (nearestWhole a c) 1 ≡ roundedAway v
+away-of-value : (v : Float) (s : Bool) (a c : ℕ) → 0 < c → HasValue v s a c → round binary64 s (nearestWhole a c) 1 ≡ roundedAway v
 unfolding roundedAway
 away-of-value v s a c C h =
     by-value (λ (v : Float). round binary64 s (nearestWhole a c) 1 ≡ roundedAway v) s a c
@@ -57,12 +57,12 @@ whole-kept v s n q k F Q K e h =
 
 -- ---- by its fields
 
-pub fields-value : (s : Bool) (f m : ℕ) → f < 2047 → HasValue (ofFields binary64 s f m) s (sizeOf f m) (2 ^ 1074)
+fields-value : (s : Bool) (f m : ℕ) → f < 2047 → HasValue (ofFields binary64 s f m) s (sizeOf f m) (2 ^ 1074)
 unfolding ofFields sizeOf
 fields-value s zero m h = subst (λ (n : ℕ). HasValue (odd 53 s m 0 1074) s n (2 ^ 1074)) (mul-one m) (odd-sign 53 s m 0 1074)
 fields-value s (suc k) m h = rw (ne-eqb (suc k) 2047 (λ e. omega arith)) (odd-sign 53 s (4503599627370496 + m) k 1074)
 
--- n / l is a whole number
+-- a / l is the whole number n
 lowered : (v : Float) (s : Bool) (n a l : ℕ) → 0 < l → a ≡ n * l → HasValue v s a l → HasValue v s n 1
 lowered v s n a l L e h =
     by-value (λ (v : Float). HasValue v s n 1) s a l
@@ -76,7 +76,7 @@ no-number s m = go (eqb m 0)
     go true = refl
     go false = refl
 
--- q * 2 ^ k with the unit's digits among its own
+-- from the field 1075 on q * 2 ^ k is a multiple of 2 ^ 1074
 whole-from : (q k : ℕ) → 1074 ≤ k → q * 2 ^ (k - 1074) * 2 ^ 1074 ≡ q * 2 ^ k
 whole-from q k h =
     let s : k - 1074 + 1074 ≡ k = omega arith in
@@ -92,6 +92,7 @@ fields-whole s (suc k) m l h M F =
     whole-kept (ofFields binary64 s (suc k) m) s (q * 2 ^ (k - 1074)) q k F Q (lt-of-lt-of-le (shl-lt {a = q} 53 k Q) (pow-mono {i = 53 + k} {j = 2098} (omega arith))) e
     (lowered (ofFields binary64 s (suc k) m) s (q * 2 ^ (k - 1074)) (q * 2 ^ k) (2 ^ 1074) (pow-pos 1074) (sym e) (fields-value s (suc k) m h))
 
+-- from the field 1075 on, an infinity or a NaN among them, and before it
 fields-large : (s : Bool) (f m : ℕ) → 1074 < f → f ≤ 2047 → m < 2 ^ 52 → T (fits binary64 (ofFields binary64 s f m)) → ofFields binary64 s f m ≡ roundedAway (ofFields binary64 s f m)
 fields-large s f m l h M F = ⊎-elim (λ e. rw (e) (no-number s m)) (λ k. fields-whole s f m l k M F) (eq-or-lt-of-le h)
 

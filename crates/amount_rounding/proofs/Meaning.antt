@@ -1,5 +1,5 @@
 -- What the rounding means, once for every number of digits: the whole number chosen is at most a half from the f64 product,
--- from exactly half way it is the larger, and the sign is the amount's. The product itself is an f64 near the exact one.
+-- from exactly half way it is the one away from zero, and the sign is the amount's.
 -- Assumes nothing.
 use Prim.Native.Nat.{ℕ, _+_, _-_, _*_, _^_, _≤_, _<_, zero-le}
 use mathlib.Core.Path.{_≡_, refl, sym, ap, _∙_, subst}
@@ -171,42 +171,58 @@ quotient-is s w r p P v q Q =
 
 -- of an amount x within its limits, and d digits
 pub record Rounding (x : Float) (d : ℤ) : Type 0 where
-  -- the product is rounded to a whole number
+  -- the f64 product is rounded to a whole number
   pub away : Away (mul binary64 x (powerOfTen d)) (roundedAway (mul binary64 x (powerOfTen d)))
-  -- which is at most 1 / 2 and 1 / 1024 from the exact product
+  -- whose sign is the amount's
+  pub amount : HasValue x (away .sign) (num x) (den x)
+  -- and which is at most 1 / 2 and 1 / 1024 from the exact product
   pub exact : Apart (away .whole * den x * 1024) (num x * 10 ^ natAbs d * 1024) (den x * 513)
-  -- and the answer is the f64 nearest to that number of tens, hundreds and so on
+  -- the answer is the f64 nearest to that whole number over the power of ten
   pub answer : roundedBy x (powerOfTen d) ≡ round binary64 (away .sign) (away .whole) (10 ^ natAbs d)
 
-module _ (d : ℤ) (width : isWidth d ≡ true) where
-  means : (s : Bool) (m : ℕ) (e : ℤ) → m * up e ≤ 1000000000 * down e → Rounding (fin s m e) d
-  unfolding roundedBy
-  means s m e h =
-      let p = powerOfTen d in
-      let P = 10 ^ natAbs d in
-      let y = mul binary64 (fin s m e) p in
-      let U = 2 ^ 1074 in
-      let E = 2 ^ 1065 in
-      let R = product-near s m e p P (power-value d width) (power-most d width) h in
-      let b : m * up e * P < 2 ^ 44 * down e = omega (arith, mul-le-mul h (power-most d width), down-pos e) in
-      let i = value-cross y s (R .size) U (R .value) in
-      let A =
-      rounded-away y (value-finite y s (R .size) U (R .value))
-      (num-most (num y) (den y) (R .size) U (pow-pos 1074) i (below-52 (R .size) (down e) (m * up e * P) U E (down-pos e) (pow-mono {i = 1065} {j = 1074} (omega arith)) b (R .near .0))) in
+same-sign : (y : Float) (s t : Bool) (a b c d : ℕ) → HasValue y s a c → HasValue y t b d → s ≡ t
+same-sign y s t a b c d v = by-value (λ (y : Float). HasValue y t b d → s ≡ t) s a c (λ m e p w. w .0) y v
+
+module _ (d : ℤ) (width : isWidth d ≡ true) (s : Bool) (m : ℕ) (e : ℤ) (h : m * up e ≤ 1000000000 * down e) where
+  y : Float
+  y = mul binary64 (fin s m e) (powerOfTen d)
+
+  near : Rounded binary64 y s (m * up e * 10 ^ natAbs d * 2 ^ 1074) (down e) 1118
+  unfolding y
+  near = product-near s m e (powerOfTen d) (10 ^ natAbs d) (power-value d width) (power-most d width) h
+
+  crossed : num y * 2 ^ 1074 ≡ near .size * den y
+  crossed = value-cross y s (near .size) (2 ^ 1074) (near .value)
+
+  below : m * up e * 10 ^ natAbs d < 2 ^ 44 * down e
+  below = omega (arith, mul-le-mul h (power-most d width), down-pos e)
+
+  whole : Away y (roundedAway y)
+  whole =
+      rounded-away y (value-finite y s (near .size) (2 ^ 1074) (near .value))
+      (num-most (num y) (den y) (near .size) (2 ^ 1074) (pow-pos 1074) crossed
+      (below-52 (near .size) (down e) (m * up e * 10 ^ natAbs d) (2 ^ 1074) (2 ^ 1065) (down-pos e) (pow-mono {i = 1065} {j = 1074} (omega arith)) below (near .near .0)))
+
+  means : Rounding (fin s m e) d
+  unfolding y roundedBy
+  means =
+      let w = whole .whole in
+      let n = m * up e * 10 ^ natAbs d in
       record {
-        away = A;
+        away = whole;
+        amount = (same-sign y s (whole .sign) (near .size) (num y) (2 ^ 1074) (den y) (near .value) (whole .own), refl);
         exact = (
-          above-exact (A .whole) (num y) (den y) (R .size) U E (m * up e * P) (down e) (den-pos y) (pow-pos 1074) refl i (A .near .0) (R .near .0),
-          below-exact (A .whole) (num y) (den y) (R .size) U E (m * up e * P) (down e) (den-pos y) (pow-pos 1074) refl i (A .near .1) (R .near .1),
+          above-exact w (num y) (den y) (near .size) (2 ^ 1074) (2 ^ 1065) n (down e) (den-pos y) (pow-pos 1074) refl crossed (whole .near .0) (near .near .0),
+          below-exact w (num y) (den y) (near .size) (2 ^ 1074) (2 ^ 1065) n (down e) (den-pos y) (pow-pos 1074) refl crossed (whole .near .1) (near .near .1),
         );
-        answer = quotient-is (A .sign) (A .whole) (roundedAway y) p P (A .value) (power-value d width) (power-some d);
+        answer = quotient-is (whole .sign) w (roundedAway y) (powerOfTen d) (10 ^ natAbs d) (whole .value) (power-value d width) (power-some d);
       }
 
 pub rounding-means : (x : Float) (d : ℤ) → isRoundable x d ≡ true → Rounding x d
 unfolding isRoundable
 rounding-means x d h =
     let b = both-true (isWidth d) (isUpToBillion x) h in
-    by-amount (λ (x : Float). Rounding x d) (means d (b .0)) x (b .1)
+    by-amount (λ (x : Float). Rounding x d) (λ s m e l. means d (b .0) s m e l) x (b .1)
 
 pub product-not-nan : (x : Float) (d : ℤ) → isRoundable x d ≡ true → T (not (isNan (mul binary64 x (powerOfTen d))))
 unfolding isNan

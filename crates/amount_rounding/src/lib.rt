@@ -73,6 +73,7 @@ fn round(y: f64) -> f64
     whole
 }
 
+// A zero keeps its sign: -0.3 at 0 digits is -0.0.
 pub fn round2digits(x: f64, digits: i32) -> AmountAnswer
     ensures { λ r. ⌜ RoundPromise x digits r ⌝ }
 {

@@ -1,0 +1,52 @@
+-- No second answer satisfies an entry point's promise; and a refusal's number is never 0.
+-- Assumes nothing.
+use mathlib.Core.Path.{_≡_, sym, _∙_, ap}
+use mathlib.Core.Bool.{Bool, true, not}
+use native.Mathlib.Omega.{arith}
+use lib.IntN.{pos}
+use lib.Signed.{leZ}
+use Rattle.paper.specs.Outcome.{Numbered, both}
+use Rattle.paper.proofs.Outcomes.{given-injective, refused-injective, given-not-refused, unless-numbered, then-numbered}
+use Rattle.calendar.specs.Dates.{isDate}
+use Rattle.calendar.specs.declared.DateAnswer.{DateAnswer}
+use Rattle.calendar.proofs.OneOutcome.{same-date-answer}
+use Rattle.date_step.specs.Steps.{existingDate}
+use Rattle.time_period.specs.Steps.{needsTable}
+use Rattle.coupon_date.specs.Coupons.{couponDate}
+use Rattle.coupon_date.proofs.OneOutcome.{new-numbered}
+use Rattle.cash_amount.specs.Amounts.{isCurrency}
+use Rattle.bond.specs.Notes.{noteOutcome, isNoteNumber, isRate, periodChecks, termChecks, noteChecks, inYearOf, firstCouponEnd, ChecksPromise, NotePromise, FirstEndPromise}
+use Rattle.bond.specs.declared.Note.{Note}
+use Rattle.bond.specs.declared.NoteAnswer.{NoteAnswer}
+use Rattle.bond.specs.declared.NoteAnswer.the-variants as note-answer
+
+pub same-note-answer : (r s : NoteAnswer) → noteOutcome r ≡ noteOutcome s → r ≡ s
+same-note-answer (note-answer.Note a) (note-answer.Note b) e = ap note-answer.Note (given-injective e)
+same-note-answer (note-answer.Note a) (note-answer.Refused n) e = absurd (given-not-refused e)
+same-note-answer (note-answer.Refused m) (note-answer.Note b) e = absurd (given-not-refused (sym e))
+same-note-answer (note-answer.Refused m) (note-answer.Refused n) e = ap note-answer.Refused (refused-injective e)
+
+pub one-checks : (position table : Bool) (n : Note) (r s : NoteAnswer) → ChecksPromise position table n r → ChecksPromise position table n s → r ≡ s
+one-checks position table n r s p q = same-note-answer r s (p ∙ sym q)
+
+pub one-note : (n : Note) (r s : NoteAnswer) → NotePromise n r → NotePromise n s → r ≡ s
+one-note n r s p q = one-checks true true n r s p q
+
+pub one-first-end : (n : Note) (r s : DateAnswer) → FirstEndPromise n r → FirstEndPromise n s → r ≡ s
+one-first-end n r s p q = same-date-answer r s (p ∙ sym q)
+
+pub checks-numbered : (position table : Bool) (n : Note) → Numbered (noteChecks position table n)
+unfolding noteChecks termChecks periodChecks
+checks-numbered position table n =
+    unless-numbered (isNoteNumber (n .number)) 18 _ (omega arith)
+    (unless-numbered (both (isRate (n .rate)) position) 15 _ (omega arith)
+    (unless-numbered (isCurrency (n .currency)) 17 _ (omega arith)
+    (unless-numbered (both (isDate (n .«issue_date»)) (isDate (n .maturity))) 1 _ (omega arith)
+    (then-numbered (couponDate (n .«coupon_date» .day) (n .«coupon_date» .month)) (λ c. periodChecks table n) (new-numbered (n .«coupon_date» .day) (n .«coupon_date» .month))
+    (λ c. unless-numbered table 13 _ (omega arith)
+    (unless-numbered (leZ (pos 1) (n .period .num)) 14 _ (omega arith)
+    (unless-numbered (not (needsTable (n .period .unit))) 12 _ (omega arith) (omega arith))))))))
+
+pub first-end-numbered : (n : Note) → Numbered (firstCouponEnd n)
+unfolding firstCouponEnd inYearOf existingDate
+first-end-numbered n = unless-numbered (isDate _) 1 _ (omega arith) (omega arith)

@@ -1,0 +1,101 @@
+-- The note: its checks in their order, its first coupon end, and the amounts it pays.
+-- Assumes nothing.
+use Prim.Native.Nat.{ℕ, _+_, _*_, _^_}
+use mathlib.Core.Path.{_≡_}
+use mathlib.Core.Bool.{Bool, true, false, not}
+use lib.Dec.{leb, ltb}
+use lib.IntN.{pos}
+use lib.Signed.{leZ}
+use lib.Ieee.{Float, nan, inf, fin, up, down, binary64, mul, div, ofInt}
+use Rattle.paper.specs.Outcome.{Outcome, given, refused, unless, andThen, pick, both}
+use Rattle.calendar.specs.Dates.{isDate}
+use Rattle.calendar.specs.Answers.{dateOutcome}
+use Rattle.calendar.specs.declared.Date.{Date}
+use Rattle.calendar.specs.declared.DateAnswer.{DateAnswer}
+use Rattle.date_step.specs.Steps.{existingDate}
+use Rattle.time_period.specs.Steps.{needsTable}
+use Rattle.coupon_date.specs.Coupons.{couponDate}
+use Rattle.coupon_date.specs.declared.CouponDate.{CouponDate}
+use Rattle.cash_amount.specs.Amounts.{isCurrency}
+use Rattle.bond.specs.declared.NoteNumber.{NoteNumber}
+use Rattle.bond.specs.declared.Note.{Note}
+use Rattle.bond.specs.declared.NoteAnswer.{NoteAnswer}
+use Rattle.bond.specs.declared.NoteAnswer.the-variants as note-answer
+
+-- the outcome that an answer is
+abbrev pub noteOutcome : NoteAnswer → Outcome Note
+noteOutcome (note-answer.Note n) = given n
+noteOutcome (note-answer.Refused n) = refused n
+
+-- number: 1 to 10 digits
+unfoldable pub isNoteNumber : NoteNumber → Bool
+isNoteNumber n = both (both (leb 1 (n .count)) (leb (n .count) 10)) (ltb (n .digits) (10 ^ n .count))
+
+-- finite, and at most k either way: a mantissa m times 2^e, which is up e / down e, multiplied out
+abbrev pub upTo : ℕ → Float → Bool
+upTo k nan = false
+upTo k (inf s) = false
+upTo k (fin s m e) = leb (m * up e) (k * down e)
+
+-- the sign bit, which a zero has too
+abbrev pub signBit : Float → Bool
+signBit nan = false
+signBit (inf s) = s
+signBit (fin s m e) = s
+
+-- rate in percent: finite, 0 to 100, a zero with its sign bit set refused
+unfoldable pub isRate : Float → Bool
+isRate x = both (not (signBit x)) (upTo 100 x)
+
+-- position: finite, from -1e9 to 1e9
+unfoldable pub isPosition : Float → Bool
+isPosition x = upTo 1000000000 x
+
+-- 13 for the table, 14 for a coupon period below 1, 12 for B, table or not
+unfoldable pub periodChecks : Bool → Note → Outcome Note
+periodChecks table n =
+    unless table 13
+    (unless (leZ (pos 1) (n .period .num)) 14
+    (unless (not (needsTable (n .period .unit))) 12
+    (given n)))
+
+-- 1 for issue and maturity, 7 and 8 for the coupon date
+unfoldable pub termChecks : Bool → Note → Outcome Note
+termChecks table n =
+    unless (both (isDate (n .«issue_date»)) (isDate (n .maturity))) 1
+    (andThen (couponDate (n .«coupon_date» .day) (n .«coupon_date» .month)) (λ c. periodChecks table n))
+
+-- order for a note: 18, 15 (the rate, and the position where one is taken), 17, 1 for issue and maturity, 7, 8, 13 (where a table is taken), 14, 12
+unfoldable pub noteChecks : Bool → Bool → Note → Outcome Note
+noteChecks position table n =
+    unless (isNoteNumber (n .number)) 18
+    (unless (both (isRate (n .rate)) position) 15
+    (unless (isCurrency (n .currency)) 17
+    (termChecks table n)))
+
+-- first coupon end: the coupon date in the issue year if its month is after the issue month, else in the next year; year 10000 is refused 1
+unfoldable pub inYearOf : ℕ → CouponDate → Outcome Date
+inYearOf y c = existingDate (record { year = y; month = c .month; day = c .day })
+
+unfoldable pub firstCouponEnd : Note → Outcome Date
+firstCouponEnd n = inYearOf (pick (ltb (n .«issue_date» .month) (n .«coupon_date» .month)) (n .«issue_date» .year) (n .«issue_date» .year + 1)) (n .«coupon_date»)
+
+-- each amount is position x denomination x rate / 100 x fraction, left to right
+abbrev pub interestOn : Float → Float → Float → Float
+interestOn nominal rate fraction = mul binary64 (div binary64 (mul binary64 nominal rate) (ofInt binary64 (pos 100))) fraction
+
+abbrev pub nominalOf : Float → Note → Float
+nominalOf position n = mul binary64 position (ofInt binary64 (pos (n .denomination)))
+
+unfoldable pub couponAmount : Float → Note → Float → Float
+couponAmount position n fraction = interestOn (nominalOf position n) (n .rate) fraction
+
+-- what the entry points promise of their result r
+abbrev pub ChecksPromise : Bool → Bool → Note → NoteAnswer → Type 0
+ChecksPromise position table n r = noteOutcome r ≡ noteChecks position table n
+
+abbrev pub NotePromise : Note → NoteAnswer → Type 0
+NotePromise n r = ChecksPromise true true n r
+
+abbrev pub FirstEndPromise : Note → DateAnswer → Type 0
+FirstEndPromise n r = dateOutcome r ≡ firstCouponEnd n

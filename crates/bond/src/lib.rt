@@ -1,0 +1,208 @@
+// The note, as finql's bond.rs: its checks in their order, its first coupon end, and the amounts it pays.
+ghost use mathlib.Core.Path.{_≡_};
+ghost use Rattle.calendar.specs.Answers.{dateOutcome};
+ghost use Rattle.time_period.specs.Steps.{needsTable};
+ghost use Rattle.bond.specs.Notes.{isNoteNumber, isRate, isPosition, noteOutcome, periodChecks, termChecks, inYearOf, interestOn, nominalOf, couponAmount, ChecksPromise, NotePromise, FirstEndPromise};
+use calendar::Date;
+use calendar::DateAnswer;
+use cash_amount::Currency;
+use coupon_date::CouponAnswer;
+use coupon_date::CouponDate;
+use day_adjust::DayAdjust;
+use day_count_conv::DayCountConv;
+use time_period::TimePeriod;
+use time_period::TimePeriodUnit;
+
+// How many digits, and the digits as a number: 00417 and 417 are two numbers.
+pub struct NoteNumber {
+    pub count: u32,
+    pub digits: u64,
+}
+
+pub struct Note {
+    pub number: NoteNumber,
+    pub issue_date: Date,
+    pub maturity: Date,
+    pub coupon_date: CouponDate,
+    pub period: TimePeriod,
+    pub day_count_convention: DayCountConv,
+    pub business_day_rule: DayAdjust,
+    pub denomination: u32,
+    pub rate: f64,
+    pub currency: Currency,
+}
+
+pub enum NoteAnswer {
+    Note(Note),
+    Refused(u32),
+}
+
+const LAST_YEAR: u32 = 9999;
+
+// From these bits on a number has its sign bit set or is not finite.
+const NO_RATE: u64 = 0x7ff0_0000_0000_0000;
+
+// 1 to 10 digits, and no digit that does not fit in them.
+pub fn is_note_number(number: NoteNumber) -> bool
+    ensures { λ r. ⌜ r ≡ isNoteNumber number ⌝ }
+{
+    let count = number.count;
+    let digits = number.digits;
+    match count {
+        1 => digits < 10,
+        2 => digits < 100,
+        3 => digits < 1_000,
+        4 => digits < 10_000,
+        5 => digits < 100_000,
+        6 => digits < 1_000_000,
+        7 => digits < 10_000_000,
+        8 => digits < 100_000_000,
+        9 => digits < 1_000_000_000,
+        10 => digits < 10_000_000_000,
+        _ => false,
+    }
+}
+
+// Finite, from 0 to 100, the sign bit clear.
+pub fn is_rate(rate: f64) -> bool
+    ensures { λ r. ⌜ r ≡ isRate rate ⌝ }
+{
+    if rate != rate {
+        return false;
+    }
+    if NO_RATE <= f64::to_bits(rate) {
+        return false;
+    }
+    rate <= 100.0
+}
+
+// Finite, from -1e9 to 1e9; a negative zero is one of them.
+pub fn is_position(position: f64) -> bool
+    ensures { λ r. ⌜ r ≡ isPosition position ⌝ }
+{
+    if position <= 1e9 {
+        return -1e9 <= position;
+    }
+    false
+}
+
+fn is_business(unit: TimePeriodUnit) -> bool
+    ensures { λ r. ⌜ r ≡ needsTable unit ⌝ }
+{
+    match unit {
+        TimePeriodUnit::Daily => false,
+        TimePeriodUnit::BusinessDaily => true,
+        TimePeriodUnit::Weekly => false,
+        TimePeriodUnit::Monthly => false,
+        TimePeriodUnit::Annual => false,
+    }
+}
+
+// 13, 14 and 12, the last whether there is a table or not.
+fn check_period(note: Note, table: bool) -> NoteAnswer
+    ensures { λ r. ⌜ noteOutcome r ≡ periodChecks table note ⌝ }
+{
+    if !table {
+        return NoteAnswer::Refused(paper::BAD_HOLIDAY_TABLE);
+    }
+    let period = note.period;
+    if period.num < 1 {
+        return NoteAnswer::Refused(paper::PERIOD_BELOW_ONE);
+    }
+    let unit = period.unit;
+    if is_business(unit) {
+        return NoteAnswer::Refused(paper::MISSING_CALENDAR);
+    }
+    NoteAnswer::Note(note)
+}
+
+// 1 for the dates, 7 and 8 for the coupon date, then the period's.
+fn check_terms(note: Note, table: bool) -> NoteAnswer
+    ensures { λ r. ⌜ noteOutcome r ≡ termChecks table note ⌝ }
+{
+    if !calendar::is_date(note.issue_date) {
+        return NoteAnswer::Refused(paper::INVALID_DATE);
+    }
+    if !calendar::is_date(note.maturity) {
+        return NoteAnswer::Refused(paper::INVALID_DATE);
+    }
+    let coupon = note.coupon_date;
+    match coupon_date::new_coupon_date(coupon.day, coupon.month) {
+        CouponAnswer::Coupon(_) => check_period(note, table),
+        CouponAnswer::Refused(n) => NoteAnswer::Refused(n),
+    }
+}
+
+// The checks of a note in their order, with what a caller found of its position and of its holiday table.
+pub fn check_note_with(note: Note, position: bool, table: bool) -> NoteAnswer
+    ensures { λ r. ⌜ ChecksPromise position table note r ⌝ }
+{
+    if !is_note_number(note.number) {
+        return NoteAnswer::Refused(paper::MALFORMED_RECORD);
+    }
+    if !is_rate(note.rate) {
+        return NoteAnswer::Refused(paper::NUMBER_OUT_OF_LIMITS);
+    }
+    if !position {
+        return NoteAnswer::Refused(paper::NUMBER_OUT_OF_LIMITS);
+    }
+    if !cash_amount::is_currency(note.currency) {
+        return NoteAnswer::Refused(paper::BAD_CURRENCY);
+    }
+    check_terms(note, table)
+}
+
+// The checks of a note alone.
+pub fn check_note(note: Note) -> NoteAnswer
+    ensures { λ r. ⌜ NotePromise note r ⌝ }
+{
+    check_note_with(note, true, true)
+}
+
+fn in_year_of(year: u32, coupon: CouponDate) -> DateAnswer
+    ensures { λ r. ⌜ dateOutcome r ≡ inYearOf year coupon ⌝ }
+{
+    let t = Date {
+        year,
+        month: coupon.month,
+        day: coupon.day,
+    };
+    if !calendar::is_date(t) {
+        return DateAnswer::Refused(paper::INVALID_DATE);
+    }
+    DateAnswer::Date(t)
+}
+
+// The end of the first coupon period.
+pub fn first_coupon_end(note: Note) -> DateAnswer
+    ensures { λ r. ⌜ FirstEndPromise note r ⌝ }
+{
+    let issue = note.issue_date;
+    let coupon = note.coupon_date;
+    if issue.month < coupon.month {
+        return in_year_of(issue.year, coupon);
+    }
+    if LAST_YEAR <= issue.year {
+        return DateAnswer::Refused(paper::INVALID_DATE);
+    }
+    in_year_of(issue.year + 1, coupon)
+}
+
+// What a fraction of a year pays on a nominal.
+pub fn interest(nominal: f64, rate: f64, fraction: f64) -> f64
+    ensures { λ r. ⌜ r ≡ interestOn nominal rate fraction ⌝ }
+{
+    nominal * rate / 100.0 * fraction
+}
+
+pub fn nominal(position: f64, note: Note) -> f64
+    ensures { λ r. ⌜ r ≡ nominalOf position note ⌝ }
+{
+    position * (note.denomination as f64)
+}
+
+pub fn coupon_amount(position: f64, note: Note, fraction: f64) -> f64
+    ensures { λ r. ⌜ r ≡ couponAmount position note fraction ⌝ }
+{
+    interest(nominal(position, note), note.rate, fraction)
+}

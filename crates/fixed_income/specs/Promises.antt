@@ -21,7 +21,7 @@ use Rattle.fixed_income.specs.After.{after, flowsAfter, Listed, isDayNum
 unfoldable pub recordsWritten : List CashFlow → Date → ℕ → Outcome (List CashFlow)
 recordsWritten flows date places = fitting places (flowsAfter date flows)
 
--- room r holds the later records, and then what it held
+-- how many were written; and the room holds the later records, and then what it held
 pub record AfterPromise (flows : List CashFlow) (date : Date) (room : List CashFlow) (r : FlowsAnswer) (room′ : List CashFlow) : Type 0 where
   pub answer : flowsOutcome r ≡ counted (recordsWritten flows date (length room))
   pub contents : room′ ≡ roomAfter (λ f. f) (recordsWritten flows date (length room)) room
@@ -30,7 +30,7 @@ pub record AfterPromise (flows : List CashFlow) (date : Date) (room : List CashF
 abbrev pub shortest : ℕ → ℕ → ℕ → ℕ
 shortest a b c = min a (min b c)
 
--- the same for flows in plain lists
+-- the same for flows in plain lists: refused 1, then 16
 unfoldable pub listedWritten : Day → List Listed → ℕ → Outcome (List Listed)
 listedWritten day flows places = fitting places (listedAfter day flows)
 
@@ -40,15 +40,16 @@ pub record ListedContents (written : Outcome (List Listed)) (days currencies : L
   pub currencies-are : currencies′ ≡ roomAfter (λ f. f .currency) written currencies
   pub amounts-are : amounts′ ≡ roomAfter (λ f. f .amount) written amounts
 
+-- how many were written, and what the three lists hold
 pub record ListedPromise (day : Day) (flows : List Listed) (days currencies : List ℕ) (amounts : List Float) (r : FlowsAnswer) (days′ currencies′ : List ℕ) (amounts′ : List Float) : Type 0 where
   pub answer : flowsOutcome r ≡ counted (listedWritten day flows (shortest (length days) (length currencies) (length amounts)))
   pub contents : ListedContents (listedWritten day flows (shortest (length days) (length currencies) (length amounts))) days currencies amounts days′ currencies′ amounts′
 
--- a refusal
+-- an outcome is a refusal
 abbrev pub isRefused : {A : Type 0} → Outcome A → Bool
 isRefused (given a) = false
 isRefused (refused n) = true
 
--- what the days alone decide: how many flows are later
+-- what the days alone decide: the later days, refused alike
 unfoldable pub daysWritten : Day → List ℕ → ℕ → Outcome (List ℕ)
 daysWritten day days places = fitting places (after (isDay day) isDayNumber (isLaterDay day) days)

@@ -45,9 +45,13 @@ moved-numbered rule.Modified t n table =
     then-numbered (nextDate table n) (λ u. pick (eqb (u .month) (t .month)) (given u) (prevDate table n)) (next-numbered table n)
     (λ u. picked-numbered (eqb (u .month) (t .month)) (given u) (prevDate table n) (omega arith) (prev-numbered table n))
 
+pub adjusted-numbered : (r : DayAdjust) (t : Date) (table : List ℕ) → Numbered (adjusted r t table)
+unfolding adjusted
+adjusted-numbered r t table =
+    picked-numbered (isBusiness table (dayNumber t)) (given t) (movedDate r t (dayNumber t) table) (omega arith) (moved-numbered r t (dayNumber t) table)
+
 pub adjust-numbered : (r : DayAdjust) (t : Date) (table : List ℕ) → Numbered (adjustDate r t table)
-unfolding adjustDate adjusted
+unfolding adjustDate
 adjust-numbered r t table =
     unless-numbered (isDate t) 1 _ (omega arith)
-    (unless-numbered (isTable table) 13 _ (omega arith)
-    (picked-numbered (isBusiness table (dayNumber t)) (given t) (movedDate r t (dayNumber t) table) (omega arith) (moved-numbered r t (dayNumber t) table)))
+    (unless-numbered (isTable table) 13 _ (omega arith) (adjusted-numbered r t table))

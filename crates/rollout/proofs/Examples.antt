@@ -1,0 +1,56 @@
+-- The paper's own listing: the note's three flows, as a theorem about the definitions.
+-- Assumes nothing.
+use mathlib.Core.Path.{_≡_, refl}
+use mathlib.Core.Bool.{false}
+use mathlib.Core.List.{[], _∷_}
+use lib.IntN.{pos}
+use lib.Ieee.{Float, fin, add, mul, div, ofInt}
+use Rattle.paper.specs.Outcome.{given, refused}
+use Rattle.room.specs.Room.{counted, roomAfter}
+use Rattle.gregorian.specs.Gregorian.{leap, lengthIn, monthLength, yearLength, before, unitOf}
+use Rattle.calendar.specs.Dates.{isDate, isDay, dayNumber, yearOf, inYear, theDate, monthDate, isBefore, isSame}
+use Rattle.calendar.specs.Answers.{dateOf, weekdayOf}
+use Rattle.calendar.specs.declared.Date.{Date}
+use Rattle.date_step.specs.Steps.{landing, monthsLater, existingDate}
+use Rattle.holidays.specs.Table.{ascendsFrom, isTable, listed}
+use Rattle.holidays.specs.Business.{isWeekend, isBusiness, firstOf, nextFrom, lastOf, prevFrom}
+use Rattle.day_adjust.specs.Adjustment.{nextDate, prevDate, modifiedDate, adjusted}
+use Rattle.day_fraction.specs.Fractions.{exactFraction, bits, impossible}
+use Rattle.day_count_conv.specs.Conventions.{simpleFraction, yearFraction}
+use Rattle.coupon_date.specs.Coupons.{couponDate}
+use Rattle.cash_amount.specs.Amounts.{isCapital, isCurrency}
+use Rattle.cash_flow.specs.declared.CashFlow.{CashFlow}
+use Rattle.bond.specs.Notes.{isNoteNumber, isRate, isPosition, periodChecks, termChecks, noteChecks, inYearOf, firstCouponEnd, couponAmount}
+use Rattle.bond.proofs.Examples.{on, euro}
+use Rattle.bond.proofs.Examples as notes
+use Rattle.rollout.specs.Rollout.{paid, couponFlow, flowsAfter, noteFlows, cashFlows, fitted, dayOf, amountOf}
+
+-- one, twenty and a thousand
+abbrev one : Float
+one = fin false 1 (pos 0)
+
+abbrev twenty : Float
+twenty = fin false 5 (pos 2)
+
+abbrev thousand : Float
+thousand = fin false 125 (pos 3)
+
+abbrev flow : Date → Float → CashFlow
+flow t x = record { date = t; currency = euro; amount = x }
+
+-- 2021-07-15 20, 2022-01-17 20, 2022-01-17 1000: the 15th of January 2022 is a Saturday
+pub the-listing : cashFlows notes.listed one [] ≡ given (flow (on 2021 7 15) twenty ∷ flow (on 2022 1 17) twenty ∷ flow (on 2022 1 17) thousand ∷ [])
+unfolding leap lengthIn monthLength yearLength before unitOf isDate isDay dayNumber yearOf inYear theDate monthDate isBefore isSame dateOf weekdayOf landing monthsLater existingDate ascendsFrom isTable listed isWeekend isBusiness firstOf nextFrom lastOf prevFrom nextDate prevDate modifiedDate adjusted exactFraction bits impossible simpleFraction yearFraction couponDate isCapital isCurrency isNoteNumber isRate isPosition periodChecks termChecks noteChecks inYearOf firstCouponEnd couponAmount paid couponFlow flowsAfter noteFlows cashFlows add mul div ofInt
+the-listing = refl
+
+-- four places of room: three are written, and the fourth keeps its contents; two are too few
+pub record Room : Type 0 where
+  pub answer : counted (fitted notes.listed one [] (9 ∷ 9 ∷ 9 ∷ 9 ∷ []) (one ∷ one ∷ one ∷ one ∷ [])) ≡ given 3
+  pub days : roomAfter dayOf (fitted notes.listed one [] (9 ∷ 9 ∷ 9 ∷ 9 ∷ []) (one ∷ one ∷ one ∷ one ∷ [])) (9 ∷ 9 ∷ 9 ∷ 9 ∷ []) ≡ 737986 ∷ 738172 ∷ 738172 ∷ 9 ∷ []
+  pub amounts : roomAfter amountOf (fitted notes.listed one [] (9 ∷ 9 ∷ 9 ∷ 9 ∷ []) (one ∷ one ∷ one ∷ one ∷ [])) (one ∷ one ∷ one ∷ one ∷ []) ≡ twenty ∷ twenty ∷ thousand ∷ one ∷ []
+  pub too-few-days : fitted notes.listed one [] (9 ∷ 9 ∷ []) (one ∷ one ∷ one ∷ one ∷ []) ≡ refused 16
+  pub too-few-amounts : fitted notes.listed one [] (9 ∷ 9 ∷ 9 ∷ 9 ∷ []) (one ∷ one ∷ []) ≡ refused 16
+
+pub room : Room
+unfolding dayNumber before yearLength monthLength lengthIn leap
+room = record { answer = rw the-listing; days = rw the-listing; amounts = rw the-listing; too-few-days = rw the-listing; too-few-amounts = rw the-listing }

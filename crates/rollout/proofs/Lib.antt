@@ -1,0 +1,4 @@
+pub mod Flows
+pub mod Passes
+pub mod OneOutcome
+pub mod Examples

@@ -1,0 +1,76 @@
+-- No second outcome satisfies the entry point's promise: neither another answer, nor other lists; and a refusal's number is never 0.
+-- Assumes nothing.
+use Prim.Native.Nat.{ℕ, zero, suc, min}
+use mathlib.Core.Path.{_≡_, sym, _∙_}
+use mathlib.Core.Bool.{Bool, true, false}
+use mathlib.Core.List.{List, []}
+use native.Mathlib.Omega.{arith}
+use lib.Dec.{leb}
+use lib.ListN.{length}
+use lib.Ieee.{Float}
+use Rattle.paper.specs.Outcome.{Outcome, given, refused, andThen, Numbered}
+use Rattle.paper.proofs.Outcomes.{unless-numbered, then-numbered}
+use Rattle.room.specs.Room.{fitting}
+use Rattle.calendar.specs.Dates.{isBefore}
+use Rattle.calendar.specs.declared.Date.{Date}
+use Rattle.holidays.specs.Table.{isTable}
+use Rattle.day_adjust.specs.Adjustment.{adjusted}
+use Rattle.day_adjust.proofs.OneOutcome.{adjusted-numbered}
+use Rattle.time_period.specs.Steps.{absent, stepped}
+use Rattle.time_period.proofs.OneOutcome.{step-numbered}
+use Rattle.day_count_conv.specs.Conventions.{inBits, yearFraction}
+use Rattle.day_count_conv.proofs.OneOutcome.{fraction-numbered}
+use Rattle.cash_flow.specs.declared.CashFlow.{CashFlow}
+use Rattle.cash_flow.specs.declared.FlowsAnswer.{FlowsAnswer}
+use Rattle.cash_flow.proofs.OneOutcome.{same-flows-answer}
+use Rattle.bond.specs.Notes.{isPosition, noteChecks, firstCouponEnd, nominalOf, couponAmount}
+use Rattle.bond.specs.declared.Note.{Note}
+use Rattle.bond.proofs.OneOutcome.{checks-numbered, first-end-numbered}
+use Rattle.rollout.specs.Rollout.{paid, rolledFrom, couponFlow, followed, flowsAfter, noteFlows, cashFlows, fitted, RolloutPromise}
+
+-- the answer, the days and the amounts
+pub one-rollout : (n : Note) (position : Float) (table days : List ℕ) (amounts : List Float) (r s : FlowsAnswer) (d e : List ℕ) (a b : List Float) → RolloutPromise n position table days amounts r d a → RolloutPromise n position table days amounts s e b → (r ≡ s) × (d ≡ e) × (a ≡ b)
+one-rollout n position table days amounts r s d e a b p q =
+    (same-flows-answer r s (p .answer ∙ sym (q .answer)), p .days-are ∙ sym (q .days-are), p .amounts-are ∙ sym (q .amounts-are))
+
+module _ (n : Note) (position : Float) (table : List ℕ) where
+  paid-numbered : (t : Date) (x : Float) → Numbered (paid n table t x)
+  unfolding paid
+  paid-numbered t x = then-numbered (adjusted (n .«business_day_rule») t table) _ (adjusted-numbered (n .«business_day_rule») t table) (λ u. omega arith)
+
+  coupon-numbered : (start end roll : Date) → Numbered (couponFlow n position table start end roll)
+  unfolding couponFlow
+  coupon-numbered start end roll =
+      then-numbered (yearFraction inBits (n .«day_count_convention») start end (rolledFrom n roll)) (λ fraction. paid n table end (couponAmount position n fraction))
+      (fraction-numbered inBits start end (n .«day_count_convention») (rolledFrom n roll))
+      (λ fraction. paid-numbered end (couponAmount position n fraction))
+
+  followed-numbered : (flow : Outcome CashFlow) (others : Outcome (List CashFlow)) → Numbered flow → Numbered others → Numbered (followed flow others)
+  followed-numbered flow others h k = then-numbered flow _ h (λ x. then-numbered others _ k (λ l. omega arith))
+
+  after-numbered : (k : ℕ) (t : Date) → Numbered (flowsAfter k n position table t)
+  unfolding flowsAfter
+  after-numbered zero t = omega arith
+  after-numbered (suc k) t = by (isBefore t (n .maturity)) (after-numbered k)
+    where
+      by : (b : Bool) → ((u : Date) → Numbered (flowsAfter k n position table u)) → Numbered {A = List CashFlow} (elim b [ true ↦ andThen (stepped (n .period) absent t) (λ next. followed (couponFlow n position table t next t) (flowsAfter k n position table next)) | false ↦ followed (paid n table (n .maturity) (nominalOf position n)) (given []) ])
+      by true r =
+          then-numbered (stepped (n .period) absent t) (λ next. followed (couponFlow n position table t next t) (flowsAfter k n position table next)) (step-numbered (n .period .unit) (n .period .num) t)
+          (λ u. followed-numbered (couponFlow n position table t u t) (flowsAfter k n position table u) (coupon-numbered t u t) (r u))
+      by false r = followed-numbered (paid n table (n .maturity) (nominalOf position n)) (given []) (paid-numbered (n .maturity) (nominalOf position n)) (omega arith)
+
+  flows-numbered : Numbered (noteFlows n position table)
+  unfolding noteFlows
+  flows-numbered =
+      then-numbered (firstCouponEnd n) (λ end. followed (couponFlow n position table (n .«issue_date») end end) (flowsAfter 3652059 n position table end)) (first-end-numbered n)
+      (λ end. followed-numbered (couponFlow n position table (n .«issue_date») end end) (flowsAfter 3652059 n position table end) (coupon-numbered (n .«issue_date») end end) (after-numbered 3652059 end))
+
+fitting-numbered : (places : ℕ) (o : Outcome (List CashFlow)) → Numbered o → Numbered (fitting places o)
+fitting-numbered places (given l) h = unless-numbered (leb (length l) places) 16 (given l) (omega arith) (omega arith)
+fitting-numbered places (refused k) h = h
+
+pub rollout-numbered : (n : Note) (position : Float) (table days : List ℕ) (amounts : List Float) → Numbered (fitted n position table days amounts)
+unfolding cashFlows
+rollout-numbered n position table days amounts =
+    fitting-numbered (min (length days) (length amounts)) (cashFlows n position table)
+    (then-numbered (noteChecks (isPosition position) (isTable table) n) (λ m. noteFlows m position table) (checks-numbered (isPosition position) (isTable table) n) (λ m. flows-numbered m position table))

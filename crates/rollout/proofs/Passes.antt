@@ -1,0 +1,192 @@
+-- The two passes over a note's flows: the first counts them, the second writes as many.
+-- Assumes nothing.
+use Prim.Native.Nat.{ℕ, suc, _+_, _≤_, _<_, min}
+use mathlib.Core.Path.{_≡_, refl, sym, _∙_, ap, ap₂}
+use mathlib.Core.Bool.{Bool}
+use mathlib.Core.Logic.{_⊎_, ⊎-elim}
+use mathlib.Core.List.{List, [], _∷_, _++_, map}
+use native.Mathlib.Omega.{arith}
+use lib.ListN.{length, drop, set}
+use lib.Ieee.{Float}
+use denote.Enum.Declared.{tagOf, declared}
+use borrow.Author.Tests.{le-leb, lt-leb}
+use Rattle.paper.specs.Outcome.{Outcome, given, refused, andThen}
+use Rattle.paper.proofs.Outcomes.{given-injective, given-not-refused}
+use Rattle.room.specs.Room.{fitting, counted, roomAfter}
+use Rattle.room.proofs.Filling.{Filled, filled-none, filled-more, filled-all}
+use Rattle.cash_flow.specs.declared.CashFlow.{CashFlow}
+use Rattle.cash_flow.specs.declared.FlowsAnswer.the-variants as flows-answer
+use Rattle.holidays.specs.Table.{isTable}
+use Rattle.bond.specs.Notes.{isPosition, noteChecks}
+use Rattle.bond.specs.declared.Note.{Note}
+use Rattle.bond.proofs.Ends.{passed}
+use Rattle.rollout.specs.Rollout.{followed, noteFlows, cashFlows, fitted, dayOf, amountOf, RolloutPromise}
+use Rattle.rollout.specs.Turns.{Judged, flowsDue, Dated, most, Pays, Turned}
+use Rattle.rollout.specs.declared.Due.{Due}
+use Rattle.rollout.specs.declared.Due.the-variants.{First}
+use Rattle.rollout.specs.declared.Step.{Step}
+use Rattle.rollout.specs.declared.Step.the-variants.{Pay, Stop, End}
+use Rattle.rollout.proofs.Step as S
+
+-- k flows and those of an outcome; and its flows
+abbrev pub tally : ℕ → Outcome (List CashFlow) → Outcome ℕ
+tally k (given l) = given (k + length l)
+tally k (refused n) = refused n
+
+abbrev pub flowsOf : Outcome (List CashFlow) → List CashFlow
+flowsOf (given l) = l
+flowsOf (refused n) = []
+
+tally-none : (o : Outcome (List CashFlow)) → tally 0 o ≡ counted o
+tally-none (given l) = ap given (omega arith)
+tally-none (refused n) = refl
+
+tally-more : (k : ℕ) (x : CashFlow) (o : Outcome (List CashFlow)) → tally k (followed (given x) o) ≡ tally (k + 1) o
+tally-more k x (given l) = ap given (omega arith)
+tally-more k x (refused n) = refl
+
+-- what is counted is given
+flows-more : (k m : ℕ) (x : CashFlow) (o : Outcome (List CashFlow)) → tally k o ≡ given m → flowsOf (followed (given x) o) ≡ x ∷ flowsOf o
+flows-more k m x (given l) e = refl
+flows-more k m x (refused n) e = absurd (given-not-refused (sym e))
+
+-- where all are counted none is left
+none-left : (k m : ℕ) (o : Outcome (List CashFlow)) → tally k o ≡ given m → m ≤ k → flowsOf o ≡ []
+none-left k m (given []) e h = refl
+none-left k m (given (x ∷ l)) e h = let z : k + suc (length l) ≡ m = given-injective e in absurd (omega arith)
+none-left k m (refused n) e h = refl
+
+-- what the room holds afterwards, by the flows and their count
+after-is : {B : Type 0} (part : CashFlow → B) (o : Outcome (List CashFlow)) (m : ℕ) (old : List B) → counted o ≡ given m → map part (flowsOf o) ++ drop m old ≡ roomAfter part o old
+after-is part (given l) m old e = ap (λ (k : ℕ). map part l ++ drop k old) (sym (given-injective e))
+after-is part (refused n) m old e = absurd (given-not-refused (sym e))
+
+module _ (n : Note) (position : Float) (table : List ℕ) where
+  -- ---- the first pass
+
+  pub record Counting (k : ℕ) (due : Due) : Type 0 where
+    pub dated : Dated due
+    pub few : k + most due ≤ 3652061
+    pub whole : tally k (flowsDue n position table due) ≡ counted (noteFlows n position table)
+
+  pub counting-none : Counting 0 First
+  counting-none = record { dated = omega arith; few = omega arith; whole = tally-none (noteFlows n position table) }
+
+  module _ {k : ℕ} {due : Due} (c : Counting k due) where
+    pub counting-more : {day : ℕ} {x : Float} {next : Due} → Pays n position table due day x next → Counting (k + 1) next
+    counting-more {next = next} p = record {
+      dated = p .dated;
+      few = omega (arith, c .few, p .fewer);
+      whole = sym (tally-more k (p .flow) (flowsDue n position table next)) ∙ sym (ap (tally k) (p .left)) ∙ c .whole;
+    }
+
+    pub counting-stop : {m : ℕ} → flowsDue n position table due ≡ refused m → refused m ≡ counted (noteFlows n position table)
+    counting-stop e = sym (ap (tally k) e) ∙ c .whole
+
+    pub counting-end : flowsDue n position table due ≡ given [] → given k ≡ counted (noteFlows n position table)
+    counting-end e = ap {B = Outcome ℕ} given (omega arith) ∙ sym (ap (tally k) e) ∙ c .whole
+
+  -- ---- the second pass
+
+  module _ (m : ℕ) (days₀ : List ℕ) (amounts₀ : List Float) where
+    pub record Writing (days : List ℕ) (amounts : List Float) (k : ℕ) (due : Due) : Type 0 where
+      pub dated : Dated due
+      pub within : k ≤ m
+      pub whole : tally k (flowsDue n position table due) ≡ given m
+      pub days-at : Filled (map dayOf (flowsOf (noteFlows n position table))) days₀ k (map dayOf (flowsOf (flowsDue n position table due))) days
+      pub amounts-at : Filled (map amountOf (flowsOf (noteFlows n position table))) amounts₀ k (map amountOf (flowsOf (flowsDue n position table due))) amounts
+
+    pub writing-none : counted (noteFlows n position table) ≡ given m → Writing days₀ amounts₀ 0 First
+    writing-none e = record {
+      dated = omega arith;
+      within = omega arith;
+      whole = tally-none (noteFlows n position table) ∙ e;
+      days-at = filled-none _ _;
+      amounts-at = filled-none _ _;
+    }
+
+    module _ {days : List ℕ} {amounts : List Float} {k : ℕ} {due : Due} (w : Writing days amounts k due) where
+      -- a flow is still to come, so the turn pays
+      pub must-pay : (r : Step) → Turned n position table due r → k < m → (tagOf (declared S.enum) r ≡ 1) ⊎ (tagOf (declared S.enum) r ≡ 2) → ⊥
+      must-pay (Pay day x next) t h e = ⊎-elim (λ (q : 0 ≡ 1). omega arith) (λ (q : 0 ≡ 2). omega arith) e
+      must-pay (Stop j) t h e = given-not-refused (sym (w .whole) ∙ ap (tally k) t)
+      must-pay End t h e = let z : m ≡ k + 0 = given-injective (sym (w .whole) ∙ ap (tally k) t) in omega arith
+
+      pub writing-more : {day : ℕ} {x : Float} {next : Due} → Pays n position table due day x next → k < m → k < length days → k < length amounts → Writing (set days k day) (set amounts k x) (k + 1) next
+      writing-more {day} {x} {next} p h ld la =
+          let o = flowsDue n position table next in
+          let t : tally (k + 1) o ≡ given m = sym (tally-more k (p .flow) o) ∙ sym (ap (tally k) (p .left)) ∙ w .whole in
+          let f : flowsOf (flowsDue n position table due) ≡ p .flow ∷ flowsOf o = ap flowsOf (p .left) ∙ flows-more (k + 1) m (p .flow) o t in
+          record {
+            dated = p .dated;
+            within = omega arith;
+            whole = t;
+            days-at = rw (p .day-is) (filled-more _ _ k (dayOf (p .flow)) _ days ld (rw (ap (map dayOf) f) at (w .days-at)));
+            amounts-at = rw (p .amount-is) (filled-more _ _ k (amountOf (p .flow)) _ amounts la (rw (ap (map amountOf) f) at (w .amounts-at)));
+          }
+
+      pub writing-done : counted (noteFlows n position table) ≡ given m → m ≤ k → (days ≡ roomAfter dayOf (noteFlows n position table) days₀) × (amounts ≡ roomAfter amountOf (noteFlows n position table) amounts₀)
+      writing-done c h =
+          let f : flowsOf (flowsDue n position table due) ≡ [] = none-left k m (flowsDue n position table due) (w .whole) h in
+          let e : k ≡ m = omega (arith, w .within) in (
+            rw e at (filled-all _ _ k days (rw (ap (map dayOf) f) at (w .days-at))) ∙ after-is dayOf (noteFlows n position table) m days₀ c,
+            rw e at (filled-all _ _ k amounts (rw (ap (map amountOf) f) at (w .amounts-at))) ∙ after-is amountOf (noteFlows n position table) m amounts₀ c,
+          )
+
+  -- ---- the answer
+
+  -- what was judged is what is rolled out
+  pub all-flows : Judged n position table → cashFlows n position table ≡ noteFlows n position table
+  unfolding cashFlows
+  all-flows h = rw h
+
+  fits : (o : Outcome (List CashFlow)) (m places : ℕ) → counted o ≡ given m → m ≤ places → fitting places o ≡ o
+  fits (given l) m places c h = rw (le-leb (length l) places (omega (arith, given-injective c)))
+  fits (refused j) m places c h = refl
+
+  short : (o : Outcome (List CashFlow)) (m places : ℕ) → counted o ≡ given m → places < m → fitting places o ≡ refused 16
+  short (given l) m places c h = rw (lt-leb (length l) places (omega (arith, given-injective c)))
+  short (refused j) m places c h = absurd (given-not-refused (sym c))
+
+  stopped : (o : Outcome (List CashFlow)) (j places : ℕ) → counted o ≡ refused j → fitting places o ≡ refused j
+  stopped (given l) j places c = absurd (given-not-refused c)
+  stopped (refused k) j places c = let q : k ≡ j = cc in ap refused q
+
+  module _ (days : List ℕ) (amounts : List Float) where
+    -- a refusal leaves both lists as they were
+    pub kept : (k : ℕ) → fitted n position table days amounts ≡ refused k → RolloutPromise n position table days amounts (flows-answer.Refused k) days amounts
+    kept k e = record {
+      answer = sym (ap counted e);
+      days-are = sym (ap (λ (o : Outcome (List CashFlow)). roomAfter dayOf o days) e);
+      amounts-are = sym (ap (λ (o : Outcome (List CashFlow)). roomAfter amountOf o amounts) e);
+    }
+
+    module _ (j : Judged n position table) where
+      of-flows : (o : Outcome (List CashFlow)) → fitting (min (length days) (length amounts)) (noteFlows n position table) ≡ o → fitted n position table days amounts ≡ o
+      of-flows o e = ap (fitting (min (length days) (length amounts))) (all-flows j) ∙ e
+
+      pub fill-stopped : (k : ℕ) → refused k ≡ counted (noteFlows n position table) → RolloutPromise n position table days amounts (flows-answer.Refused k) days amounts
+      fill-stopped k c = kept k (of-flows (refused k) (stopped (noteFlows n position table) k _ (sym c)))
+
+      pub fill-short : (m : ℕ) → given m ≡ counted (noteFlows n position table) → min (length days) (length amounts) < m → RolloutPromise n position table days amounts (flows-answer.Refused 16) days amounts
+      fill-short m c h = kept 16 (of-flows (refused 16) (short (noteFlows n position table) m _ (sym c) h))
+
+      pub fill-done : (m : ℕ) (days′ : List ℕ) (amounts′ : List Float) → given m ≡ counted (noteFlows n position table) → m ≤ length days → m ≤ length amounts → days′ ≡ roomAfter dayOf (noteFlows n position table) days → amounts′ ≡ roomAfter amountOf (noteFlows n position table) amounts → RolloutPromise n position table days amounts (flows-answer.Flows m) days′ amounts′
+      fill-done m days′ amounts′ c hd ha d a =
+          let e = of-flows (noteFlows n position table) (fits (noteFlows n position table) m _ (sym c) (omega arith)) in
+          record {
+            answer = c ∙ sym (ap counted e);
+            days-are = d ∙ sym (ap (λ (o : Outcome (List CashFlow)). roomAfter dayOf o days) e);
+            amounts-are = a ∙ sym (ap (λ (o : Outcome (List CashFlow)). roomAfter amountOf o amounts) e);
+          }
+
+    -- the note's refusals
+    pub note-refused : (p t : Bool) (k : ℕ) → p ≡ isPosition position → t ≡ isTable table → noteChecks p t n ≡ refused k → RolloutPromise n position table days amounts (flows-answer.Refused k) days amounts
+    unfolding cashFlows
+    note-refused p t k a b e =
+        kept k (ap (λ (o : Outcome Note). fitting (min (length days) (length amounts)) (andThen o (λ m. noteFlows m position table))) (ap₂ (λ (x y : Bool). noteChecks x y n) (sym a) (sym b) ∙ e))
+
+-- the checks give the note that was judged
+pub judged-by : (n : Note) (position : Float) (table : List ℕ) (p t : Bool) (m : Note) → p ≡ isPosition position → t ≡ isTable table → noteChecks p t n ≡ given m → Judged n position table
+judged-by n position table p t m a b e =
+    ap₂ (λ (x y : Bool). noteChecks x y n) (sym a) (sym b) ∙ e ∙ ap given (sym (passed p t n m e .itself))

@@ -1,0 +1,2 @@
+pub mod Rollout
+pub mod Turns

@@ -1,0 +1,58 @@
+-- What the inner functions hand each other, one flow at a time; no promise of an entry point rests on this.
+-- Assumes nothing.
+use Prim.Native.Nat.{ℕ, _-_, _<_}
+use mathlib.Core.Path.{_≡_}
+use mathlib.Core.Bool.{true}
+use mathlib.Core.List.{List, []}
+use lib.Ieee.{Float}
+use Rattle.paper.specs.Outcome.{Outcome, given, refused}
+use Rattle.calendar.specs.Dates.{isDate, dayNumber}
+use Rattle.holidays.specs.Table.{isTable}
+use Rattle.cash_flow.specs.declared.CashFlow.{CashFlow}
+use Rattle.bond.specs.Notes.{isPosition, noteChecks}
+use Rattle.bond.specs.declared.Note.{Note}
+use Rattle.rollout.specs.Rollout.{followed, flowsAfter, noteFlows, dayOf, amountOf}
+use Rattle.rollout.specs.declared.Due.{Due}
+use Rattle.rollout.specs.declared.Due.the-variants.{First, After, Nothing}
+use Rattle.rollout.specs.declared.Step.{Step}
+use Rattle.rollout.specs.declared.Step.the-variants.{Pay, Stop, End}
+
+-- a note, a position and a table that passed their checks
+abbrev pub Judged : Note → Float → List ℕ → Type 0
+Judged n position table = noteChecks (isPosition position) (isTable table) n ≡ given n
+
+-- the step that a flow makes
+abbrev pub stepOf : Outcome CashFlow → Due → Step
+stepOf (given x) next = Pay (dayOf x) (amountOf x) next
+stepOf (refused k) next = Stop k
+
+-- what is left to be paid
+abbrev pub flowsDue : Note → Float → List ℕ → Due → Outcome (List CashFlow)
+flowsDue n position table First = noteFlows n position table
+flowsDue n position table (After t) = flowsAfter 3652059 n position table t
+flowsDue n position table Nothing = given []
+
+-- the date is one of the calendar, and how many flows there can be
+abbrev pub Dated : Due → Type 0
+Dated First = 0 < 1
+Dated (After t) = isDate t ≡ true
+Dated Nothing = 0 < 1
+
+abbrev pub most : Due → ℕ
+most First = 3652061
+most (After t) = 3652060 - dayNumber t
+most Nothing = 0
+
+-- a flow is paid: what is left is that flow, and what is left after it
+pub record Pays (n : Note) (position : Float) (table : List ℕ) (due : Due) (day : ℕ) (x : Float) (next : Due) : Type 0 where
+  pub flow : CashFlow
+  pub left : flowsDue n position table due ≡ followed (given flow) (flowsDue n position table next)
+  pub day-is : day ≡ dayOf flow
+  pub amount-is : x ≡ amountOf flow
+  pub dated : Dated next
+  pub fewer : most next < most due
+
+abbrev pub Turned : Note → Float → List ℕ → Due → Step → Type 0
+Turned n position table due (Pay day x next) = Pays n position table due day x next
+Turned n position table due (Stop k) = flowsDue n position table due ≡ refused k
+Turned n position table due End = flowsDue n position table due ≡ given []

@@ -1,0 +1,194 @@
+// Rollout of a note into its cash flows: judged and counted first, and written only where all of them are given and fit.
+ghost use mathlib.Core.Path.{_≡_};
+ghost use mathlib.Core.Bool.{true};
+ghost use Prim.Native.Nat.{_≤_};
+ghost use lib.ListN.{length};
+ghost use Rattle.paper.specs.Outcome.{given};
+ghost use Rattle.room.specs.Room.{counted, roomAfter};
+ghost use Rattle.calendar.specs.Dates.{isDate, isBefore};
+ghost use Rattle.holidays.specs.Table.{ascending};
+ghost use Rattle.day_fraction.specs.Fractions.{Span};
+ghost use Rattle.cash_flow.specs.Flows.{flowsOutcome};
+ghost use Rattle.rollout.specs.Rollout.{paid, couponFlow, noteFlows, dayOf, amountOf, RolloutPromise};
+ghost use Rattle.rollout.specs.Turns.{Judged, stepOf, Dated, Turned};
+use bond::Note;
+use bond::NoteAnswer;
+use calendar::Date;
+use calendar::DateAnswer;
+use cash_flow::FlowsAnswer;
+use day_count_conv::Extras;
+use day_count_conv::RollDate;
+use day_count_conv::RollPeriod;
+use day_count_conv::YearFraction;
+
+// What is due: the first coupon, what follows a coupon that ended on a date, or nothing more.
+enum Due {
+    First,
+    After(Date),
+    Nothing,
+}
+
+// One step: a flow's serial day and amount with what is due after it, a refusal, or the end.
+enum Step {
+    Pay(u32, f64, Due),
+    Stop(u32),
+    End,
+}
+
+// An amount on the adjusted date.
+fn pay(note: Note, table: &[u32], t: Date, amount: f64, next: Due) -> Step
+    requires { ⌜ (isDate t ≡ true) × (ascending (now table) ≡ true) ⌝ }
+    ensures { λ r. ⌜ r ≡ stepOf (paid note (now (table .entry)) t amount) next ⌝ }
+{
+    let rule = note.business_day_rule;
+    match day_adjust::adjust_judged(rule, t, table) {
+        DateAnswer::Date(u) => Step::Pay(calendar::number_of(u), amount, next),
+        DateAnswer::Refused(k) => Step::Stop(k),
+    }
+}
+
+// The coupon from start to end.
+fn coupon(note: Note, position: f64, table: &[u32], start: Date, end: Date, roll: Date) -> Step
+    requires { ⌜ (Span start end) × (isDate roll ≡ true) × (ascending (now table) ≡ true) ⌝ }
+    ensures { λ r. ⌜ r ≡ stepOf (couponFlow note position (now (table .entry)) start end roll) (Due.After end) ⌝ }
+{
+    let rule = note.day_count_convention;
+    let period = note.period;
+    let extras = Extras {
+        roll: RollDate::Date(roll),
+        period: RollPeriod::Period(period),
+    };
+    match day_count_conv::fraction_judged(rule, start, end, extras) {
+        YearFraction::Fraction(fraction) => {
+            let amount = bond::coupon_amount(position, note, fraction);
+            pay(note, table, end, amount, Due::After(end))
+        }
+        YearFraction::Refused(k) => Step::Stop(k),
+    }
+}
+
+// The first coupon rolls from its end.
+fn first_turn(note: Note, position: f64, table: &[u32]) -> Step
+    requires { ⌜ Judged note position (now table) ⌝ }
+    ensures { λ r. ⌜ Turned note position (now (table .entry)) Due.First r ⌝ }
+{
+    match bond::first_coupon_end(note) {
+        DateAnswer::Date(end) => coupon(note, position, table, note.issue_date, end, end),
+        DateAnswer::Refused(k) => Step::Stop(k),
+    }
+}
+
+// A later coupon, a period on, rolls from its start; the nominal comes behind the last.
+fn next_turn(note: Note, position: f64, table: &[u32], end: Date) -> Step
+    requires { ⌜ (Judged note position (now table)) × (isDate end ≡ true) ⌝ }
+    ensures { λ r. ⌜ Turned note position (now (table .entry)) (Due.After end) r ⌝ }
+{
+    if calendar::is_before(end, note.maturity) {
+        let period = note.period;
+        match time_period::step(period, end) {
+            DateAnswer::Date(next) => coupon(note, position, table, end, next, end),
+            DateAnswer::Refused(k) => Step::Stop(k),
+        }
+    } else {
+        let amount = bond::nominal(position, note);
+        pay(note, table, note.maturity, amount, Due::Nothing)
+    }
+}
+
+fn turn(note: Note, position: f64, table: &[u32], due: Due) -> Step
+    requires { ⌜ (Judged note position (now table)) × (Dated due) ⌝ }
+    ensures { λ r. ⌜ Turned note position (now (table .entry)) due r ⌝ }
+{
+    match due {
+        Due::First => first_turn(note, position, table),
+        Due::After(end) => next_turn(note, position, table, end),
+        Due::Nothing => Step::End,
+    }
+}
+
+// How many flows there are, or the first refusal.
+fn count(note: Note, position: f64, table: &[u32]) -> FlowsAnswer
+    requires { ⌜ Judged note position (now table) ⌝ }
+    ensures { λ r. ⌜ flowsOutcome r ≡ counted (noteFlows note position (now (table .entry))) ⌝ }
+{
+    let mut k: usize = 0;
+    let mut due = Due::First;
+    loop {
+        match turn(note, position, table, due) {
+            Step::Pay(_, _, next) => {
+                due = next;
+                k += 1;
+            }
+            Step::Stop(n) => {
+                return FlowsAnswer::Refused(n);
+            }
+            Step::End => {
+                return FlowsAnswer::Flows(k);
+            }
+        }
+    }
+}
+
+// Writes the flows, which are n; a turn that does not pay is proved impossible.
+fn write(note: Note, position: f64, table: &[u32], n: usize, days: &mut [u32], amounts: &mut [f64])
+    requires { ⌜ (Judged note position (now table)) × (counted (noteFlows note position (now table)) ≡ given n) ⌝ }
+    requires { ⌜ (n ≤ length (now days)) × (n ≤ length (now amounts)) ⌝ }
+    ensures { λ _. ⌜ now (days .exit) ≡ roomAfter dayOf (noteFlows note position (now (table .entry))) (now (days .entry)) ⌝ }
+    ensures { λ _. ⌜ now (amounts .exit) ≡ roomAfter amountOf (noteFlows note position (now (table .entry))) (now (amounts .entry)) ⌝ }
+{
+    let mut k: usize = 0;
+    let mut due = Due::First;
+    while k < n {
+        let Step::Pay(day, amount, next) = turn(note, position, table, due) else {
+            return;
+        };
+        days[k] = day;
+        amounts[k] = amount;
+        due = next;
+        k += 1;
+    }
+}
+
+// Of a note, a position and a table already judged.
+fn fill(
+    note: Note,
+    position: f64,
+    table: &[u32],
+    days: &mut [u32],
+    amounts: &mut [f64],
+) -> FlowsAnswer
+    requires { ⌜ Judged note position (now table) ⌝ }
+    ensures { λ r. ⌜ RolloutPromise note position (now (table .entry)) (now (days .entry)) (now (amounts .entry)) r (now (days .exit)) (now (amounts .exit)) ⌝ }
+{
+    match count(note, position, table) {
+        FlowsAnswer::Flows(n) => {
+            if days.len() < n {
+                return FlowsAnswer::Refused(paper::TOO_FEW_PLACES);
+            }
+            if amounts.len() < n {
+                return FlowsAnswer::Refused(paper::TOO_FEW_PLACES);
+            }
+            write(note, position, table, n, days, amounts);
+            FlowsAnswer::Flows(n)
+        }
+        FlowsAnswer::Refused(k) => FlowsAnswer::Refused(k),
+    }
+}
+
+// The serial days and the amounts of a note's flows, into lent room.
+pub fn rollout_flows(
+    note: Note,
+    position: f64,
+    table: &[u32],
+    days: &mut [u32],
+    amounts: &mut [f64],
+) -> FlowsAnswer
+    ensures { λ r. ⌜ RolloutPromise note position (now (table .entry)) (now (days .entry)) (now (amounts .entry)) r (now (days .exit)) (now (amounts .exit)) ⌝ }
+{
+    let position_in = bond::is_position(position);
+    let table_taken = holidays::is_table(table);
+    match bond::check_note_with(note, position_in, table_taken) {
+        NoteAnswer::Note(_) => fill(note, position, table, days, amounts),
+        NoteAnswer::Refused(k) => FlowsAnswer::Refused(k),
+    }
+}

@@ -1,8 +1,11 @@
--- An answer is fixed by its outcome.
+-- An answer is fixed by its outcome, and no second result satisfies a comparison's promise.
 -- Assumes nothing.
 use mathlib.Core.Path.{_≡_, sym, ap}
-use Rattle.paper.proofs.Outcomes.{given-injective, refused-injective, given-not-refused}
-use Rattle.cash_flow.specs.Flows.{flowsOutcome}
+use mathlib.Core.Bool.{Bool}
+use lib.Ieee.{Float}
+use Rattle.paper.proofs.Outcomes.{given-injective, refused-injective, given-not-refused, one-value}
+use Rattle.cash_flow.specs.Flows.{flowsOutcome, AggregatablePromise, ComparisonPromise}
+use Rattle.cash_flow.specs.declared.CashFlow.{CashFlow}
 use Rattle.cash_flow.specs.declared.FlowsAnswer.{FlowsAnswer}
 use Rattle.cash_flow.specs.declared.FlowsAnswer.the-variants.{Flows, Refused}
 
@@ -11,3 +14,9 @@ same-flows-answer (Flows a) (Flows b) e = ap Flows (given-injective e)
 same-flows-answer (Flows a) (Refused n) e = absurd (given-not-refused e)
 same-flows-answer (Refused m) (Flows b) e = absurd (given-not-refused (sym e))
 same-flows-answer (Refused m) (Refused n) e = ap Refused (refused-injective e)
+
+pub one-aggregatable : (a b : CashFlow) (r s : Bool) → AggregatablePromise a b r → AggregatablePromise a b s → r ≡ s
+one-aggregatable a b r s p q = one-value r s p q
+
+pub one-comparison : (a b : CashFlow) (tol : Float) (r s : Bool) → ComparisonPromise a b tol r → ComparisonPromise a b tol s → r ≡ s
+one-comparison a b tol r s p q = one-value r s p q

@@ -1,7 +1,9 @@
 -- Cash flows, and what the answer of a routine that writes them says.
 -- Assumes nothing.
 use Prim.Native.Nat.{ℕ}
-use mathlib.Core.Bool.{Bool}
+use mathlib.Core.Path.{_≡_}
+use mathlib.Core.Bool.{Bool, false}
+use lib.Ieee.{Float, nan, inf, fin, binary64, sub, le}
 use Rattle.paper.specs.Outcome.{Outcome, given, refused, both}
 use Rattle.calendar.specs.Dates.{isSame}
 use Rattle.cash_amount.specs.Amounts.{isSameCurrency}
@@ -17,3 +19,24 @@ flowsOutcome (Refused n) = refused n
 -- dates and currencies are equal
 unfoldable pub aggregatableFlows : CashFlow → CashFlow → Bool
 aggregatableFlows a b = both (isSame (a .date) (b .date)) (isSameCurrency (a .currency) (b .currency))
+
+-- a number, its sign dropped
+unfoldable pub absolute : Float → Float
+absolute nan = nan
+absolute (inf s) = inf false
+absolute (fin s m e) = fin false m e
+
+-- a difference, its sign dropped, is at most the tolerance (nothing is at most a NaN, nor a NaN at most anything)
+unfoldable pub isWithin : Float → Float → Bool
+isWithin d tol = le (absolute d) tol
+
+-- yes if dates and currencies are equal and the f64 difference, sign dropped, is at most the tolerance; else no
+unfoldable pub sameFlows : CashFlow → CashFlow → Float → Bool
+sameFlows a b tol = both (aggregatableFlows a b) (isWithin (sub binary64 (a .amount) (b .amount)) tol)
+
+-- what the entry points promise of their result r
+abbrev pub AggregatablePromise : CashFlow → CashFlow → Bool → Type 0
+AggregatablePromise a b r = r ≡ aggregatableFlows a b
+
+abbrev pub ComparisonPromise : CashFlow → CashFlow → Float → Bool → Type 0
+ComparisonPromise a b tol r = r ≡ sameFlows a b tol

@@ -1,6 +1,6 @@
 // Cash flows: an amount of a currency on a date; comparison of two.
 ghost use mathlib.Core.Path.{_≡_};
-ghost use Rattle.cash_flow.specs.Flows.{aggregatableFlows};
+ghost use Rattle.cash_flow.specs.Flows.{isWithin, AggregatablePromise, ComparisonPromise};
 use calendar::Date;
 use cash_amount::Currency;
 
@@ -18,10 +18,30 @@ pub enum FlowsAnswer {
 
 // The same date and the same currency; it refuses nothing, and neither has to exist.
 pub fn aggregatable(a: CashFlow, b: CashFlow) -> bool
-    ensures { λ r. ⌜ r ≡ aggregatableFlows a b ⌝ }
+    ensures { λ r. ⌜ AggregatablePromise a b r ⌝ }
 {
     if !calendar::is_same(a.date, b.date) {
         return false;
     }
     cash_amount::is_same_currency(a.currency, b.currency)
+}
+
+// finql's `abs() <= tol`, the sign dropped by hand; a NaN on either side is no.
+fn is_within(d: f64, tol: f64) -> bool
+    ensures { λ r. ⌜ r ≡ isWithin d tol ⌝ }
+{
+    if d < 0.0 {
+        return -d <= tol;
+    }
+    d <= tol
+}
+
+// Equal within a tolerance; it refuses nothing.
+pub fn fuzzy_cash_flows_cmp_eq(a: CashFlow, b: CashFlow, tol: f64) -> bool
+    ensures { λ r. ⌜ ComparisonPromise a b tol r ⌝ }
+{
+    if !aggregatable(a, b) {
+        return false;
+    }
+    is_within(a.amount - b.amount, tol)
 }

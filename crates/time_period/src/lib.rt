@@ -40,7 +40,7 @@ pub enum FrequencyAnswer {
     Refused(u32),
 }
 
-enum UnitAnswer {
+pub enum UnitAnswer {
     Unit(TimePeriodUnit),
     Refused(u32),
 }

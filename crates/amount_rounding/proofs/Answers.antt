@@ -1,0 +1,20 @@
+-- Which answer the limits leave. Assumes nothing.
+use mathlib.Core.Path.{_≡_}
+use mathlib.Core.Bool.{true, false}
+use lib.IntN.{ℤ}
+use lib.Ieee.{Float, binary64, mul, div}
+use Rattle.paper.specs.Outcome.{given, refused}
+use Rattle.paper.proofs.Outcomes.{both-true}
+use Rattle.amount_rounding.specs.RoundedAmounts.{isWidth, isUpToBillion, isRoundable, powerOfTen, roundedAway, roundedBy, round2digitsOf}
+
+pub answer-refused : (x : Float) (d : ℤ) → isRoundable x d ≡ false → refused 15 ≡ round2digitsOf x d
+unfolding round2digitsOf
+answer-refused x d h = rw (h)
+
+pub answer-given : (x : Float) (d : ℤ) (w p : Float) → isRoundable x d ≡ true → p ≡ powerOfTen d → w ≡ roundedAway (mul binary64 x p) → given (div binary64 w p) ≡ round2digitsOf x d
+unfolding round2digitsOf roundedBy
+answer-given x d w p h e f = rw (h, f, e)
+
+pub roundable-width : (x : Float) (d : ℤ) → isRoundable x d ≡ true → isWidth d ≡ true
+unfolding isRoundable
+roundable-width x d h = both-true (isWidth d) (isUpToBillion x) h .0

@@ -1,0 +1,2 @@
+pub mod RoundedAmounts
+pub mod Fields

@@ -1,0 +1,15 @@
+-- `bit_fields::power_of_two` meets its contract: the shifted one does not wrap.
+-- Assumes nothing.
+use borrow.Author.Needs.{needs}
+use Rattle.bit_fields.proofs.Bits.{shifted-one}
+use Rattle.bit_fields.proofs.power_of_two.Statement.{statement}
+use Rattle.bit_fields.proofs.power_of_two.Tie as tie
+
+shl-result : tie.Need-shl-result
+shl-result c = search needs
+
+returns : tie.Need-returns
+returns c = shifted-one _ (c .pre)
+
+pub power-of-two-spec : {M : Type 1} → statement M
+power-of-two-spec = tie.close (tie.spec shl-result returns)

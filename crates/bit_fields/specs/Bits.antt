@@ -1,0 +1,42 @@
+-- Numbers in fields of bits, the most significant bit first.
+-- Assumes nothing.
+use Prim.Native.Nat.{ℕ, zero, suc, _+_, _*_, _/_, _%_, _<_}
+use mathlib.Core.List.{List, [], _∷_, _++_}
+use lib.ListN.{take, drop}
+
+-- the last w bits of n
+unfoldable pub fieldBits : ℕ → ℕ → List ℕ
+fieldBits zero n = []
+fieldBits (suc w) n = fieldBits w (n / 2) ++ ((n % 2) ∷ [])
+
+-- bits behind a number: each makes it twice as much, and adds itself
+unfoldable pub continuedBits : ℕ → List ℕ → ℕ
+continuedBits v [] = v
+continuedBits v (b ∷ s) = continuedBits (v * 2 + b) s
+
+-- the number that bits are
+abbrev pub bitsNumber : List ℕ → ℕ
+bitsNumber s = continuedBits 0 s
+
+-- the bits of bytes, eight of each
+unfoldable pub bitsOf : List ℕ → List ℕ
+bitsOf [] = []
+bitsOf (b ∷ s) = fieldBits 8 b ++ bitsOf s
+
+-- the number in the w bits from place at on
+unfoldable pub field : List ℕ → ℕ → ℕ → ℕ
+field s at w = bitsNumber (take w (drop at (bitsOf s)))
+
+-- the number in the k bytes from byte i on
+abbrev pub bytesNumber : List ℕ → ℕ → ℕ → ℕ
+bytesNumber s i k = bitsNumber (bitsOf (take k (drop i s)))
+
+-- the k bytes that bits are
+unfoldable pub bytesOf : ℕ → List ℕ → List ℕ
+bytesOf zero s = []
+bytesOf (suc k) s = bitsNumber (take 8 s) ∷ bytesOf k (drop 8 s)
+
+-- every one is a byte
+abbrev pub AreBytes : List ℕ → Type 0
+AreBytes [] = 0 < 1
+AreBytes (b ∷ s) = (b < 256) × AreBytes s

@@ -1,0 +1,160 @@
+// Dates, amounts and cash flows as text, as finql's `Display` writes them.
+ghost use mathlib.Core.Path.{_≡_};
+ghost use mathlib.Core.Bool.{true};
+ghost use mathlib.Core.List.{_∷_, _++_};
+ghost use Prim.Native.Nat.{_+_, _≤_};
+ghost use lib.ListN.{length};
+ghost use lib.Ieee.Scale.{finite};
+ghost use Rattle.text.specs.Writing.{digits, Wrote};
+ghost use Rattle.calendar.specs.Dates.{isDate};
+ghost use Rattle.cash_amount.specs.Amounts.{currencyText};
+ghost use Rattle.cash_flow_text.specs.Texts.{dateText, amountText, flowText, AmountTakes, FlowTakes, DateWrites, AmountWrites, FlowWrites};
+use calendar::Date;
+use cash_amount::Currency;
+use cash_flow::CashFlow;
+use text::LengthAnswer;
+
+// Every date of the calendar takes as many bytes.
+const DATE_LENGTH: usize = 10;
+
+// A blank and three letters.
+const CURRENCY_LENGTH: usize = 4;
+
+// A hyphen and two digits.
+fn put_two(n: u32, out: &mut [u8], at: usize) -> usize
+    requires { ⌜ at + 3 ≤ length (now out) ⌝ }
+    ensures { λ r. ⌜ Wrote (now (out .entry)) (now (out .exit)) at (45 ∷ digits 2 n) r ⌝ }
+{
+    out[at] = b'-';
+    text::put_digits(n as u64, 2, out, at + 1)
+}
+
+fn put_month_and_day(t: Date, out: &mut [u8], at: usize) -> usize
+    requires { ⌜ at + 6 ≤ length (now out) ⌝ }
+    ensures { λ r. ⌜ Wrote (now (out .entry)) (now (out .exit)) at ((45 ∷ digits 2 (t .month)) ++ (45 ∷ digits 2 (t .day))) r ⌝ }
+{
+    let next = put_two(t.month, out, at);
+    put_two(t.day, out, next)
+}
+
+// Inner: the caller has seen that the date exists and that there is room. yyyy-mm-dd.
+pub fn put_date_at(t: Date, out: &mut [u8], at: usize) -> usize
+    requires { ⌜ isDate t ≡ true ⌝ }
+    requires { ⌜ at + length (dateText t) ≤ length (now out) ⌝ }
+    ensures { λ r. ⌜ Wrote (now (out .entry)) (now (out .exit)) at (dateText t) r ⌝ }
+{
+    let next = text::put_digits(t.year as u64, 4, out, at);
+    put_month_and_day(t, out, next)
+}
+
+// A blank and the currency.
+fn put_currency(c: Currency, out: &mut [u8], at: usize) -> usize
+    requires { ⌜ at + 4 ≤ length (now out) ⌝ }
+    ensures { λ r. ⌜ Wrote (now (out .entry)) (now (out .exit)) at (32 ∷ currencyText c) r ⌝ }
+{
+    let letters = [b' ', c.first, c.second, c.third];
+    text::put_bytes(&letters, out, at)
+}
+
+// Inner: the caller has seen that x is finite and that there is room. The amount and its currency.
+pub fn put_amount_at(x: f64, currency: Currency, out: &mut [u8], at: usize) -> usize
+    requires { ⌜ finite x ≡ true ⌝ }
+    requires { ⌜ at + length (amountText x currency) ≤ length (now out) ⌝ }
+    ensures { λ r. ⌜ Wrote (now (out .entry)) (now (out .exit)) at (amountText x currency) r ⌝ }
+{
+    let next = decimal::put_decimal_at(x, out, at);
+    put_currency(currency, out, next)
+}
+
+// A blank and the amount.
+fn put_behind(x: f64, currency: Currency, out: &mut [u8], at: usize) -> usize
+    requires { ⌜ finite x ≡ true ⌝ }
+    requires { ⌜ at + length (32 ∷ amountText x currency) ≤ length (now out) ⌝ }
+    ensures { λ r. ⌜ Wrote (now (out .entry)) (now (out .exit)) at (32 ∷ amountText x currency) r ⌝ }
+{
+    out[at] = b' ';
+    put_amount_at(x, currency, out, at + 1)
+}
+
+// Inner: the caller has seen that the amount is finite, that the date exists and that there is room.
+pub fn put_cash_flow_at(flow: CashFlow, out: &mut [u8], at: usize) -> usize
+    requires { ⌜ (finite (flow .amount) ≡ true) × (isDate (flow .date) ≡ true) ⌝ }
+    requires { ⌜ at + length (flowText flow) ≤ length (now out) ⌝ }
+    ensures { λ r. ⌜ Wrote (now (out .entry)) (now (out .exit)) at (flowText flow) r ⌝ }
+{
+    let next = put_date_at(flow.date, out, at);
+    put_behind(flow.amount, flow.currency, out, next)
+}
+
+// How many bytes an amount and its currency take.
+pub fn amount_length(x: f64, currency: Currency) -> LengthAnswer
+    ensures { λ r. ⌜ AmountTakes x currency r ⌝ }
+{
+    match decimal::decimal_length(x) {
+        LengthAnswer::Length(k) => {
+            if !cash_amount::is_currency(currency) {
+                return LengthAnswer::Refused(paper::BAD_CURRENCY);
+            }
+            LengthAnswer::Length(k + CURRENCY_LENGTH)
+        }
+        LengthAnswer::Refused(n) => LengthAnswer::Refused(n),
+    }
+}
+
+// How many bytes a flow takes.
+pub fn cash_flow_length(flow: CashFlow) -> LengthAnswer
+    ensures { λ r. ⌜ FlowTakes flow r ⌝ }
+{
+    match amount_length(flow.amount, flow.currency) {
+        LengthAnswer::Length(k) => {
+            if !calendar::is_date(flow.date) {
+                return LengthAnswer::Refused(paper::INVALID_DATE);
+            }
+            LengthAnswer::Length(DATE_LENGTH + 1 + k)
+        }
+        LengthAnswer::Refused(n) => LengthAnswer::Refused(n),
+    }
+}
+
+// What `Display` of a date writes.
+pub fn write_date(t: Date, out: &mut [u8]) -> LengthAnswer
+    ensures { λ r. ⌜ DateWrites t (now (out .entry)) (now (out .exit)) r ⌝ }
+{
+    if !calendar::is_date(t) {
+        return LengthAnswer::Refused(paper::INVALID_DATE);
+    }
+    if out.len() < DATE_LENGTH {
+        return LengthAnswer::Refused(paper::TOO_FEW_PLACES);
+    }
+    LengthAnswer::Length(put_date_at(t, out, 0))
+}
+
+// What `Display` of a `CashAmount` writes.
+pub fn write_amount(x: f64, currency: Currency, out: &mut [u8]) -> LengthAnswer
+    ensures { λ r. ⌜ AmountWrites x currency (now (out .entry)) (now (out .exit)) r ⌝ }
+{
+    match amount_length(x, currency) {
+        LengthAnswer::Length(k) => {
+            if out.len() < k {
+                return LengthAnswer::Refused(paper::TOO_FEW_PLACES);
+            }
+            LengthAnswer::Length(put_amount_at(x, currency, out, 0))
+        }
+        LengthAnswer::Refused(n) => LengthAnswer::Refused(n),
+    }
+}
+
+// What `Display` of a `CashFlow` writes.
+pub fn write_cash_flow(flow: CashFlow, out: &mut [u8]) -> LengthAnswer
+    ensures { λ r. ⌜ FlowWrites flow (now (out .entry)) (now (out .exit)) r ⌝ }
+{
+    match cash_flow_length(flow) {
+        LengthAnswer::Length(k) => {
+            if out.len() < k {
+                return LengthAnswer::Refused(paper::TOO_FEW_PLACES);
+            }
+            LengthAnswer::Length(put_cash_flow_at(flow, out, 0))
+        }
+        LengthAnswer::Refused(n) => LengthAnswer::Refused(n),
+    }
+}

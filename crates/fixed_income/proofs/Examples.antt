@@ -1,0 +1,80 @@
+-- Flows after a date, as theorems about the definitions: the three flows of document 01's note, of any amounts.
+-- Assumes nothing.
+use Prim.Native.Nat.{ℕ}
+use mathlib.Core.Path.{_≡_, refl}
+use mathlib.Core.List.{List, [], _∷_}
+use lib.Ieee.{Float}
+use Rattle.paper.specs.Outcome.{given, refused}
+use Rattle.room.specs.Room.{roomAfter}
+use Rattle.gregorian.specs.Gregorian.{leap, lengthIn, monthLength}
+use Rattle.calendar.specs.Dates.{isDate, isDay, isBefore}
+use Rattle.calendar.specs.declared.Day.{Day}
+use Rattle.calendar.specs.declared.Date.{Date}
+use Rattle.cash_flow.specs.declared.CashFlow.{CashFlow}
+use Rattle.fixed_income.specs.After.{laterOf, allOf, flowsAfter, Listed, listed, listedAfter}
+use Rattle.fixed_income.specs.Promises.{recordsWritten, listedWritten}
+
+abbrev on : ℕ → ℕ → ℕ → Date
+on y m d = record { year = y; month = m; day = d }
+
+abbrev euros : Date → Float → CashFlow
+euros t x = record { date = t; currency = record { first = 69; second = 85; third = 82 }; amount = x }
+
+-- two coupons and the nominal
+abbrev note : Float → Float → Float → List CashFlow
+note a b c = euros (on 2021 7 15) a ∷ euros (on 2022 1 17) b ∷ euros (on 2022 1 17) c ∷ []
+
+pub record Records (a b c : Float) : Type 0 where
+  pub all-later : flowsAfter (on 2021 7 14) (note a b c) ≡ given (note a b c)
+  pub strictly : flowsAfter (on 2021 7 15) (note a b c) ≡ given (euros (on 2022 1 17) b ∷ euros (on 2022 1 17) c ∷ [])
+  pub none : flowsAfter (on 2022 1 17) (note a b c) ≡ given []
+  pub no-flows : flowsAfter (on 2022 1 17) [] ≡ given []
+  pub no-such-date : flowsAfter (on 2021 2 29) [] ≡ refused 1
+  pub no-such-date-of-a-flow : flowsAfter (on 2022 1 17) (euros (on 2021 2 29) a ∷ note a b c) ≡ refused 1
+  pub places-for-the-later : recordsWritten (note a b c) (on 2021 7 15) 2 ≡ given (euros (on 2022 1 17) b ∷ euros (on 2022 1 17) c ∷ [])
+  pub too-few-places : recordsWritten (note a b c) (on 2021 7 15) 1 ≡ refused 16
+  pub date-first : recordsWritten (note a b c) (on 2021 2 29) 0 ≡ refused 1
+  pub room-past-it : roomAfter (λ f. f) (recordsWritten (note a b c) (on 2021 7 15) 3) (note c a b) ≡ euros (on 2022 1 17) b ∷ euros (on 2022 1 17) c ∷ euros (on 2022 1 17) b ∷ []
+
+pub records : (a b c : Float) → Records a b c
+unfolding leap lengthIn monthLength isDate isBefore laterOf allOf flowsAfter recordsWritten
+records a b c =
+    record {
+      all-later = refl;
+      strictly = refl;
+      none = refl;
+      no-flows = refl;
+      no-such-date = refl;
+      no-such-date-of-a-flow = refl;
+      places-for-the-later = refl;
+      too-few-places = refl;
+      date-first = refl;
+      room-past-it = refl;
+    }
+
+abbrev serial : ℕ → Day
+serial n = record { 0 = n }
+
+abbrev flow : ℕ → ℕ → Float → Listed
+flow d c x = record { day = d; currency = c; amount = x }
+
+-- four days, three currencies, three amounts: three flows
+pub record Lists (a b c : Float) : Type 0 where
+  pub shortest : listed (3 ∷ 5 ∷ 7 ∷ 9 ∷ []) (1 ∷ 1 ∷ 2 ∷ []) (a ∷ b ∷ c ∷ []) ≡ flow 3 1 a ∷ flow 5 1 b ∷ flow 7 2 c ∷ []
+  pub strictly : listedAfter (serial 5) (flow 3 1 a ∷ flow 5 1 b ∷ flow 7 2 c ∷ []) ≡ given (flow 7 2 c ∷ [])
+  pub no-day-zero : listedAfter (serial 5) (flow 0 1 a ∷ []) ≡ refused 1
+  pub past-the-calendar : listedAfter (serial 3652060) [] ≡ refused 1
+  pub too-few-places : listedWritten (serial 4) (flow 5 1 b ∷ flow 7 2 c ∷ []) 1 ≡ refused 16
+  pub days-written : roomAfter (λ f. f .day) (listedWritten (serial 5) (flow 3 1 a ∷ flow 7 2 c ∷ []) 2) (1 ∷ 2 ∷ []) ≡ 7 ∷ 2 ∷ []
+
+pub lists : (a b c : Float) → Lists a b c
+unfolding isDay laterOf allOf listed listedAfter listedWritten
+lists a b c =
+    record {
+      shortest = refl;
+      strictly = refl;
+      no-day-zero = refl;
+      past-the-calendar = refl;
+      too-few-places = refl;
+      days-written = refl;
+    }

@@ -1,0 +1,6 @@
+pub mod Later
+pub mod Columns
+pub mod Records
+pub mod Walked
+pub mod OneOutcome
+pub mod Examples

@@ -1,0 +1,4 @@
+pub mod Codes
+pub mod Numbers
+pub mod Reading
+pub mod OneOutcome

@@ -1,0 +1,35 @@
+-- `packed_note::note_with` meets its contract: each part is what its bits are.
+-- Assumes nothing.
+use Rattle.packed_note.proofs.Numbers.{no-nan}
+use borrow.Author.Needs.{needs}
+use Rattle.packed_note.proofs.note_with.Statement.{statement}
+use Rattle.packed_note.proofs.note_with.Tie as tie
+
+number-in-requires : tie.Need-number-in-requires
+number-in-requires c κs = search needs
+
+period-in-requires : tie.Need-period-in-requires
+period-in-requires c κs = search needs
+
+rule-of-code-requires : tie.Need-rule-of-code-requires
+rule-of-code-requires c κs = search needs
+
+float-from-bits-t12 : tie.Need-float-from-bits-t12
+float-from-bits-t12 c = no-nan _ (c .before .before .before .before .before .before .before .before .before .pre .1)
+
+currency-in-requires : tie.Need-currency-in-requires
+currency-in-requires c κs = search needs
+
+returns : tie.Need-returns
+returns c = cc (c .before .before .before .before .number-in .ensures, c .before .before .before .period-in .ensures, c .before .before .rule-of-code .ensures, c .currency-in .ensures)
+
+pub note-with-spec : {M : Type 1} → statement M
+note-with-spec =
+    tie.close
+    (tie.spec
+    number-in-requires
+    period-in-requires
+    rule-of-code-requires
+    float-from-bits-t12
+    currency-in-requires
+    returns)

@@ -1,0 +1,328 @@
+// The 30 bytes of a packed note: the numbers in its bits, and the note that they are.
+ghost use mathlib.Core.Path.{_≡_};
+ghost use Prim.Native.Nat.{_+_, _-_, _*_, _/_, _^_, _≤_, _<_};
+ghost use lib.Dec.{ltb};
+ghost use lib.ListN.{length};
+ghost use Rattle.paper.specs.Outcome.{pick, andThen};
+ghost use Rattle.bit_fields.specs.Bits.{field};
+ghost use Rattle.packed_note.specs.Codes.{unitOfCode, ruleOfCode, placeGood, digitsGood, digitsNumber, numberGood};
+ghost use Rattle.packed_note.specs.Records.{LettersFit, Fits, dateAt, couponAt, termsOf, lettersOf, rawOf, currencyIn, periodIn, numberIn, noteWith, checkedUnit, NoteInPromise};
+ghost use Rattle.time_period.specs.Periods.{unitOutcome};
+ghost use Rattle.bond.specs.Notes.{noteOutcome, noteChecks};
+ghost use mathlib.Core.Bool.{true};
+use bond::Note;
+use bond::NoteAnswer;
+use bond::NoteNumber;
+use calendar::Date;
+use cash_amount::Currency;
+use coupon_date::CouponDate;
+use day_adjust::DayAdjust;
+use day_count_conv::ConventionAnswer;
+use day_count_conv::DayCountConv;
+use time_period::TimePeriod;
+use time_period::TimePeriodUnit;
+use time_period::UnitAnswer;
+
+pub struct Terms {
+    pub unit: u32,
+    pub number: u32,
+    pub convention: u32,
+    pub adjustment: u32,
+}
+
+pub struct Letters {
+    pub first: u32,
+    pub second: u32,
+    pub third: u32,
+}
+
+// From these bits on a number has its sign bit set or is not finite.
+const NO_RATE: u64 = 0x7ff0_0000_0000_0000;
+
+// The numbers as they stand in the bits, judged or not.
+pub struct Raw {
+    pub count: u32,
+    pub digits: u64,
+    pub issue: Date,
+    pub maturity: Date,
+    pub coupon: CouponDate,
+    pub terms: Terms,
+    pub denomination: u32,
+    pub rate: u64,
+    pub letters: Letters,
+    pub spare: u32,
+}
+
+fn narrow_field(s: &[u8], at: usize, width: usize) -> u32
+    requires { ⌜ (width ≤ 32) × (at ≤ 65536) × (at + width ≤ 8 * length (now s)) ⌝ }
+    ensures { λ r. ⌜ (r ≡ field (now (s .entry)) at width) × (r < 2 ^ width) ⌝ }
+{
+    bit_fields::read_field(s, at, width) as u32
+}
+
+fn read_date(s: &[u8], at: usize) -> Date
+    requires { ⌜ (at ≤ 65000) × (at + 23 ≤ 8 * length (now s)) ⌝ }
+    ensures { λ r. ⌜ r ≡ dateAt (now (s .entry)) at ⌝ }
+{
+    Date {
+        year: narrow_field(s, at, 14),
+        month: narrow_field(s, at + 14, 4),
+        day: narrow_field(s, at + 18, 5),
+    }
+}
+
+// A rate is wider than one field may be.
+fn read_rate(s: &[u8]) -> u64
+    requires { ⌜ 30 ≤ length (now s) ⌝ }
+    ensures { λ r. ⌜ (r ≡ field (now (s .entry)) 151 64) × (r < 2 ^ 64) ⌝ }
+{
+    let high = bit_fields::read_field(s, 151, 32);
+    let low = bit_fields::read_field(s, 183, 32);
+    high * 4294967296 + low
+}
+
+fn read_coupon(s: &[u8]) -> CouponDate
+    requires { ⌜ 30 ≤ length (now s) ⌝ }
+    ensures { λ r. ⌜ r ≡ couponAt (now (s .entry)) ⌝ }
+{
+    CouponDate {
+        day: narrow_field(s, 90, 5),
+        month: narrow_field(s, 95, 4),
+    }
+}
+
+fn read_terms(s: &[u8]) -> Terms
+    requires { ⌜ 30 ≤ length (now s) ⌝ }
+    ensures { λ r. ⌜ (r ≡ termsOf (now (s .entry))) × (r .number < 4096) ⌝ }
+{
+    Terms {
+        unit: narrow_field(s, 99, 3),
+        number: narrow_field(s, 102, 12),
+        convention: narrow_field(s, 114, 3),
+        adjustment: narrow_field(s, 117, 2),
+    }
+}
+
+fn read_letters(s: &[u8]) -> Letters
+    requires { ⌜ 30 ≤ length (now s) ⌝ }
+    ensures { λ r. ⌜ (r ≡ lettersOf (now (s .entry))) × (LettersFit r) ⌝ }
+{
+    Letters {
+        first: narrow_field(s, 215, 5),
+        second: narrow_field(s, 220, 5),
+        third: narrow_field(s, 225, 5),
+    }
+}
+
+// Inner: of bytes that are enough, so that a record's length is judged once.
+pub fn read_raw(s: &[u8]) -> Raw
+    requires { ⌜ 30 ≤ length (now s) ⌝ }
+    ensures { λ r. ⌜ (r ≡ rawOf (now (s .entry))) × (Fits r) ⌝ }
+{
+    Raw {
+        count: narrow_field(s, 0, 4),
+        digits: bit_fields::read_field(s, 4, 40),
+        issue: read_date(s, 44),
+        maturity: read_date(s, 67),
+        coupon: read_coupon(s),
+        terms: read_terms(s),
+        denomination: narrow_field(s, 119, 32),
+        rate: read_rate(s),
+        letters: read_letters(s),
+        spare: narrow_field(s, 230, 10),
+    }
+}
+
+fn unit_of_code(code: u32) -> UnitAnswer
+    ensures { λ r. ⌜ unitOutcome r ≡ unitOfCode code ⌝ }
+{
+    match code {
+        0 => UnitAnswer::Unit(TimePeriodUnit::Daily),
+        1 => UnitAnswer::Unit(TimePeriodUnit::BusinessDaily),
+        2 => UnitAnswer::Unit(TimePeriodUnit::Weekly),
+        3 => UnitAnswer::Unit(TimePeriodUnit::Monthly),
+        4 => UnitAnswer::Unit(TimePeriodUnit::Annual),
+        _ => UnitAnswer::Refused(paper::MALFORMED_RECORD),
+    }
+}
+
+// Two bits have no other code.
+fn rule_of_code(code: u32) -> DayAdjust
+    ensures { λ r. ⌜ r ≡ ruleOfCode code ⌝ }
+{
+    match code {
+        0 => DayAdjust::None,
+        1 => DayAdjust::Following,
+        2 => DayAdjust::Preceding,
+        _ => DayAdjust::Modified,
+    }
+}
+
+fn place_good(count: u32, i: u32, n: u64) -> bool
+    ensures { λ r. ⌜ r ≡ placeGood count i n ⌝ }
+{
+    if i < count { n < 10 } else { n == 15 }
+}
+
+// What stands in the first places, of ten.
+fn first_places(digits: u64, k: u32) -> u64
+    requires { ⌜ k ≤ 10 ⌝ }
+    ensures { λ r. ⌜ r ≡ digits / 16 ^ (10 - k) ⌝ }
+{
+    digits >> (40 - 4 * k)
+}
+
+fn digits_good(count: u32, digits: u64) -> bool
+    ensures { λ r. ⌜ r ≡ digitsGood count 10 digits ⌝ }
+{
+    let mut good = true;
+    let mut k: u32 = 0;
+    while k < 10 {
+        let places = first_places(digits, k + 1);
+        good = good & place_good(count, k, places % 16);
+        k += 1;
+    }
+    good
+}
+
+fn number_good(count: u32, digits: u64) -> bool
+    ensures { λ r. ⌜ r ≡ numberGood count digits ⌝ }
+{
+    if count < 1 {
+        return false;
+    }
+    if 10 < count {
+        return false;
+    }
+    digits_good(count, digits)
+}
+
+// One place more; a place that is not used adds nothing.
+fn with_place(count: u32, k: u32, number: u64, place: u64) -> u64
+    requires { ⌜ (number ≤ 20000000000) × (place < 16) ⌝ }
+    ensures { λ r. ⌜ r ≡ pick (ltb k count) (number * 10 + place) number ⌝ }
+{
+    if k < count {
+        number * 10 + place
+    } else {
+        number
+    }
+}
+
+// The digits as a number.
+fn digits_number(count: u32, digits: u64) -> u64
+    ensures { λ r. ⌜ r ≡ digitsNumber count 10 digits ⌝ }
+{
+    let mut number: u64 = 0;
+    let mut k: u32 = 0;
+    while k < 10 {
+        let places = first_places(digits, k + 1);
+        number = with_place(count, k, number, places % 16);
+        k += 1;
+    }
+    number
+}
+
+fn currency_in(letters: Letters) -> Currency
+    requires { ⌜ LettersFit letters ⌝ }
+    ensures { λ r. ⌜ r ≡ currencyIn letters ⌝ }
+{
+    Currency {
+        first: (64 + letters.first) as u8,
+        second: (64 + letters.second) as u8,
+        third: (64 + letters.third) as u8,
+    }
+}
+
+fn period_in(terms: Terms, unit: TimePeriodUnit) -> TimePeriod
+    requires { ⌜ terms .number < 4096 ⌝ }
+    ensures { λ r. ⌜ r ≡ periodIn terms unit ⌝ }
+{
+    TimePeriod {
+        num: terms.number as i32,
+        unit,
+    }
+}
+
+fn number_in(raw: Raw) -> NoteNumber
+    ensures { λ r. ⌜ r ≡ numberIn raw ⌝ }
+{
+    NoteNumber {
+        count: raw.count,
+        digits: digits_number(raw.count, raw.digits),
+    }
+}
+
+// Of bits that are a number's, neither a NaN's nor an infinity's.
+fn note_with(raw: Raw, unit: TimePeriodUnit, convention: DayCountConv) -> Note
+    requires { ⌜ (Fits raw) × (raw .rate < 9218868437227405312) ⌝ }
+    ensures { λ r. ⌜ r ≡ noteWith raw unit convention ⌝ }
+{
+    let issue_date = raw.issue;
+    let maturity = raw.maturity;
+    let coupon_date = raw.coupon;
+    let terms = raw.terms;
+    let letters = raw.letters;
+    Note {
+        number: number_in(raw),
+        issue_date,
+        maturity,
+        coupon_date,
+        period: period_in(terms, unit),
+        day_count_convention: convention,
+        business_day_rule: rule_of_code(terms.adjustment),
+        denomination: raw.denomination,
+        rate: f64::from_bits(raw.rate),
+        currency: currency_in(letters),
+    }
+}
+
+// Bits that are no number's are refused before they become an f64.
+fn checked(raw: Raw, unit: TimePeriodUnit, convention: DayCountConv, table: bool) -> NoteAnswer
+    requires { ⌜ (Fits raw) × (numberGood (raw .count) (raw .digits) ≡ true) ⌝ }
+    ensures { λ r. ⌜ noteOutcome r ≡ noteChecks true table (noteWith raw unit convention) ⌝ }
+{
+    if NO_RATE <= raw.rate {
+        return NoteAnswer::Refused(paper::NUMBER_OUT_OF_LIMITS);
+    }
+    bond::check_note_with(note_with(raw, unit, convention), true, table)
+}
+
+fn with_unit(raw: Raw, unit: TimePeriodUnit, table: bool) -> NoteAnswer
+    requires { ⌜ (Fits raw) × (numberGood (raw .count) (raw .digits) ≡ true) ⌝ }
+    ensures { λ r. ⌜ noteOutcome r ≡ checkedUnit table raw unit ⌝ }
+{
+    let terms = raw.terms;
+    match day_count_conv::convention_of(terms.convention) {
+        ConventionAnswer::Convention(convention) => checked(raw, unit, convention, table),
+        ConventionAnswer::Refused(n) => NoteAnswer::Refused(n),
+    }
+}
+
+fn by_unit(raw: Raw, table: bool) -> NoteAnswer
+    requires { ⌜ (Fits raw) × (numberGood (raw .count) (raw .digits) ≡ true) ⌝ }
+    ensures { λ r. ⌜ noteOutcome r ≡ andThen (unitOfCode (raw .terms .unit)) (checkedUnit table raw) ⌝ }
+{
+    let terms = raw.terms;
+    match unit_of_code(terms.unit) {
+        UnitAnswer::Unit(unit) => with_unit(raw, unit, table),
+        UnitAnswer::Refused(n) => NoteAnswer::Refused(n),
+    }
+}
+
+// Inner: of numbers that stood in their bits; what a caller found of the bytes behind them comes with them.
+pub fn note_in(raw: Raw, whole: bool, table: bool) -> NoteAnswer
+    requires { ⌜ Fits raw ⌝ }
+    ensures { λ r. ⌜ NoteInPromise whole table raw r ⌝ }
+{
+    if !whole {
+        return NoteAnswer::Refused(paper::MALFORMED_RECORD);
+    }
+    if !number_good(raw.count, raw.digits) {
+        return NoteAnswer::Refused(paper::MALFORMED_RECORD);
+    }
+    if raw.spare != 0 {
+        return NoteAnswer::Refused(paper::MALFORMED_RECORD);
+    }
+    by_unit(raw, table)
+}

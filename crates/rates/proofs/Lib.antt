@@ -1,0 +1,4 @@
+pub mod Numbers
+pub mod Streams
+pub mod OneOutcome
+pub mod Examples

@@ -1,0 +1,82 @@
+-- No second answer satisfies an entry point's promise; and a refusal's number is never 0. Assumes nothing.
+use Prim.Native.Nat.{ℕ}
+use mathlib.Core.Path.{_≡_, sym, _∙_, ap}
+use mathlib.Core.List.{List, [], _∷_}
+use native.Mathlib.Omega.{arith}
+use lib.IntN.{pos}
+use lib.Ieee.{Float, binary64, add, mul}
+use lib.Ieee.Scale.{finite}
+use Rattle.paper.specs.Outcome.{given, Numbered}
+use Rattle.paper.proofs.Outcomes.{given-injective, refused-injective, given-not-refused, unless-numbered, then-numbered}
+use Rattle.calendar.specs.declared.Date.{Date}
+use Rattle.cash_amount.specs.declared.AmountAnswer.{AmountAnswer}
+use Rattle.cash_amount.proofs.OneOutcome.{same-amount-answer}
+use Rattle.cash_flow.specs.declared.CashFlow.{CashFlow}
+use Rattle.day_fraction.specs.Fractions.{whole}
+use Rattle.day_count_conv.specs.Conventions.{inBits}
+use Rattle.day_count_conv.specs.declared.DayCountConv.{DayCountConv}
+use Rattle.day_count_conv.proofs.OneOutcome.{fraction-numbered}
+use Rattle.rates.specs.Rates.{factorOutcome, isRate, factorOf, none, fractionTo, discountFactor, isOneCurrency, flowValue, discountedFlow, flowAdded, streamFrom, discountedStream, FactorPromise, FlowPromise, StreamPromise}
+use Rattle.rates.specs.Listed.{flowsOf, ListedPromise}
+use Rattle.rates.specs.declared.FlatRate.{FlatRate}
+use Rattle.rates.specs.declared.FactorAnswer.{FactorAnswer}
+use Rattle.rates.specs.declared.FactorAnswer.the-variants as factor-answer
+
+pub same-factor-answer : (r s : FactorAnswer) → factorOutcome r ≡ factorOutcome s → r ≡ s
+same-factor-answer (factor-answer.Factor a) (factor-answer.Factor b) e = ap factor-answer.Factor (given-injective e)
+same-factor-answer (factor-answer.Factor a) (factor-answer.Refused n) e = absurd (given-not-refused e)
+same-factor-answer (factor-answer.Refused m) (factor-answer.Factor b) e = absurd (given-not-refused (sym e))
+same-factor-answer (factor-answer.Refused m) (factor-answer.Refused n) e = ap factor-answer.Refused (refused-injective e)
+
+-- one answer to each question
+module _ (rate : FlatRate) (today : Date) where
+  pub one-factor : (t : Date) (r s : FactorAnswer) → FactorPromise rate today t r → FactorPromise rate today t s → r ≡ s
+  one-factor t r s p q = same-factor-answer r s (p ∙ sym q)
+
+  pub one-flow : (f : CashFlow) (r s : AmountAnswer) → FlowPromise rate today f r → FlowPromise rate today f s → r ≡ s
+  one-flow f r s p q = same-amount-answer r s (p ∙ sym q)
+
+  pub one-stream : (fs : List CashFlow) (r s : AmountAnswer) → StreamPromise rate today fs r → StreamPromise rate today fs s → r ≡ s
+  one-stream fs r s p q = same-amount-answer r s (p ∙ sym q)
+
+  pub one-listed : (days currencies : List ℕ) (amounts : List Float) (r s : AmountAnswer) → ListedPromise rate today days currencies amounts r → ListedPromise rate today days currencies amounts s → r ≡ s
+  one-listed days currencies amounts r s p q = one-stream (flowsOf days currencies amounts) r s p q
+
+-- every refusal has its number
+to-numbered : (rule : DayCountConv) (today t : Date) → Numbered (fractionTo rule today t)
+unfolding fractionTo
+to-numbered rule today t = fraction-numbered inBits today t rule none
+
+module _ (rate : FlatRate) (today : Date) where
+  pub factor-numbered : (t : Date) → Numbered (discountFactor rate today t)
+  unfolding discountFactor
+  factor-numbered t =
+      unless-numbered (isRate (rate .rate)) 15 _ (omega arith)
+      (then-numbered (fractionTo (rate .«day_count_conv») today t) (λ yf. given (factorOf (rate .rate) yf)) (to-numbered (rate .«day_count_conv») today t) (λ yf. omega arith))
+
+  value-numbered : (f : CashFlow) → Numbered (flowValue rate today f)
+  unfolding flowValue
+  value-numbered f =
+      unless-numbered (finite (f .amount)) 15 _ (omega arith)
+      (unless-numbered (isOneCurrency (rate .currency) (f .currency)) 17 _ (omega arith)
+      (then-numbered (fractionTo (rate .«day_count_conv») today (f .date)) (λ yf. given (mul binary64 (factorOf (rate .rate) yf) (f .amount))) (to-numbered (rate .«day_count_conv») today (f .date)) (λ yf. omega arith)))
+
+  pub flow-numbered : (f : CashFlow) → Numbered (discountedFlow rate today f)
+  unfolding discountedFlow
+  flow-numbered f = unless-numbered (isRate (rate .rate)) 15 _ (omega arith) (value-numbered f)
+
+  added-numbered : (sum : Float) (f : CashFlow) → Numbered (flowAdded rate today sum f)
+  unfolding flowAdded
+  added-numbered sum f = then-numbered (flowValue rate today f) (λ x. given (add binary64 sum x)) (value-numbered f) (λ x. omega arith)
+
+  from-numbered : (fs : List CashFlow) (sum : Float) → Numbered (streamFrom rate today sum fs)
+  unfolding streamFrom
+  from-numbered [] sum = omega arith
+  from-numbered (f ∷ fs) sum = then-numbered (flowAdded rate today sum f) (λ next. streamFrom rate today next fs) (added-numbered sum f) (λ next. from-numbered fs next)
+
+  pub stream-numbered : (fs : List CashFlow) → Numbered (discountedStream rate today fs)
+  unfolding discountedStream
+  stream-numbered fs = unless-numbered (isRate (rate .rate)) 15 _ (omega arith) (from-numbered fs (whole (pos 0)))
+
+  pub listed-numbered : (days currencies : List ℕ) (amounts : List Float) → Numbered (discountedStream rate today (flowsOf days currencies amounts))
+  listed-numbered days currencies amounts = stream-numbered (flowsOf days currencies amounts)

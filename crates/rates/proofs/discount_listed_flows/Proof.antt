@@ -1,0 +1,95 @@
+-- `rates::discount_listed_flows` meets its contract: 15, or the flows one after the other; what is left decides. Laws of Streams.
+-- Assumes nothing.
+use Prim.Native.Nat.{_-_, _≤_}
+use mathlib.Core.Path.{sym, ap, ap₂, _∙_}
+use borrow.Author.Needs.{needs}
+use mathlib.Core.Path.{_≡_}
+use native.Mathlib.Omega.{arith}
+use lib.ListN.{length}
+use lib.IntN.{pos}
+use borrow.Author.Tests.{not-true, not-false}
+use Rattle.day_fraction.specs.Fractions.{whole}
+use Rattle.cash_amount.specs.Amounts.{amountOutcome}
+use Rattle.rates.specs.Rates.{streamFrom, discountedStream}
+use Rattle.rates.specs.Listed.{flowsFrom, flowsOf}
+use Rattle.rates.proofs.Streams.{stream-on, stream-ends, stream-none, flows-more, flows-all, flows-none}
+use Rattle.rates.proofs.Numbers.{lit0}
+use Rattle.rates.proofs.discount_listed_flows.Statement.{statement}
+use Rattle.rates.proofs.discount_listed_flows.Tie as tie
+
+abbrev Inv-loop : tie.InvT-loop
+Inv-loop rate days currencies amounts today sum₀ i₀ sum i =
+    (i ≤ length amounts) × (streamFrom rate today sum (flowsFrom days currencies amounts i (length amounts - i)) ≡ streamFrom rate today (whole (pos 0)) (flowsOf days currencies amounts))
+
+abbrev μ-loop : tie.MeasureT-loop
+μ-loop rate days currencies amounts today sum₀ i₀ sum i = length amounts - i
+
+is-rate-requires : tie.Need-is-rate-requires Inv-loop μ-loop
+is-rate-requires c κs = search needs
+
+returns : tie.Need-returns Inv-loop μ-loop
+unfolding discountedStream
+returns c = rw (sym (c .before .is-rate .ensures) ∙ not-true _ (c .if1 .taken))
+
+loop-holds : tie.Need-loop-holds Inv-loop μ-loop
+loop-holds c =
+    let a = c .before .before .before .before .before .args in
+    (omega arith, ap₂ (streamFrom (a .rate) (a .today)) lit0 (flows-all (a .days .now) (a .currencies .now) (a .amounts .now)))
+
+flow-at-requires : tie.Need-flow-at-requires Inv-loop μ-loop
+flow-at-requires c κs = search needs
+
+flow-added-requires : tie.Need-flow-added-requires Inv-loop μ-loop
+flow-added-requires c κs = search needs
+
+enum-known-x : tie.Need-enum-known-x Inv-loop μ-loop
+enum-known-x c = search needs
+
+enum-known-n : tie.Need-enum-known-n Inv-loop μ-loop
+enum-known-n c = search needs
+
+returns-2 : tie.Need-returns-2 Inv-loop μ-loop
+unfolding discountedStream
+returns-2 c =
+    let a = c .before .before .before .before .before .before .before .before .before .before .before .before .args in
+    let left = rw (flows-more (a .days .now) (a .currencies .now) (a .amounts .now) (c .before .before .before .before .before .before .loop .i) (length (a .amounts .now)) (c .before .before .before .before .before .loop-test .taken)) at (c .before .before .before .before .before .before .loop .inv .1) in
+    rw (sym (c .before .before .before .before .before .before .before .before .is-rate .ensures) ∙ not-false _ (c .before .before .before .before .before .before .before .if1 .left))
+    (stream-ends (a .rate) (a .today) _ _ _ _ _ (rw (← c .before .before .before .before .flow-at .ensures) (ap amountOutcome (sym (c .before .n .given .1)) ∙ c .before .before .before .flow-added .ensures)) left)
+
+add-i : tie.Need-add-i Inv-loop μ-loop
+add-i c = search needs
+
+loop-less : tie.Need-loop-less Inv-loop μ-loop
+loop-less c = search needs
+
+loop-again : tie.Need-loop-again Inv-loop μ-loop
+loop-again c =
+    let a = c .before .before .before .before .before .before .before .before .before .before .before .before .args in
+    let left = rw (flows-more (a .days .now) (a .currencies .now) (a .amounts .now) (c .before .before .before .before .before .before .loop .i) (length (a .amounts .now)) (c .before .before .before .before .before .loop-test .taken)) at (c .before .before .before .before .before .before .loop .inv .1) in
+    (omega arith, stream-on (a .rate) (a .today) _ _ _ _ _ (rw (← c .before .before .before .before .flow-at .ensures) (ap amountOutcome (sym (c .before .x .given .1)) ∙ c .before .before .before .flow-added .ensures)) left)
+
+returns-3 : tie.Need-returns-3 Inv-loop μ-loop
+unfolding discountedStream
+returns-3 c =
+    let a = c .before .before .before .before .before .before .before .args in
+    let left = rw (flows-none (a .days .now) (a .currencies .now) (a .amounts .now) (c .before .loop .i) (length (a .amounts .now)) (c .loop-test .left)) at (c .before .loop .inv .1) in
+    rw (sym (c .before .before .before .is-rate .ensures) ∙ not-false _ (c .before .before .if1 .left)) (sym (stream-none (a .rate) (a .today) _) ∙ left)
+
+pub discount-listed-flows-spec : {M : Type 1} → statement M
+discount-listed-flows-spec =
+    tie.close
+    (tie.spec
+    Inv-loop
+    μ-loop
+    is-rate-requires
+    returns
+    loop-holds
+    flow-at-requires
+    flow-added-requires
+    enum-known-x
+    enum-known-n
+    returns-2
+    add-i
+    loop-less
+    loop-again
+    returns-3)

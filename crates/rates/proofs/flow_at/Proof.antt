@@ -1,0 +1,40 @@
+-- `rates::flow_at` meets its contract: the three parts at one place.
+-- Assumes nothing.
+use borrow.Author.Needs.{needs}
+use Rattle.rates.specs.Listed.{flowAt}
+use Rattle.rates.proofs.flow_at.Statement.{statement}
+use Rattle.rates.proofs.flow_at.Tie as tie
+
+entry-requires : tie.Need-entry-requires
+entry-requires c κs = search needs
+
+date-at-requires : tie.Need-date-at-requires
+date-at-requires c κs = search needs
+
+entry-requires-2 : tie.Need-entry-requires-2
+entry-requires-2 c κs = search needs
+
+currency-at-requires : tie.Need-currency-at-requires
+currency-at-requires c κs = search needs
+
+mul-amount : tie.Need-mul-amount
+mul-amount c = search needs
+
+shared-slice-read-amount : tie.Need-shared-slice-read-amount
+shared-slice-read-amount c = search needs
+
+returns : tie.Need-returns
+unfolding flowAt
+returns c = cc
+
+pub flow-at-spec : {M : Type 1} → statement M
+flow-at-spec =
+    tie.close
+    (tie.spec
+    entry-requires
+    date-at-requires
+    entry-requires-2
+    currency-at-requires
+    mul-amount
+    shared-slice-read-amount
+    returns)

@@ -1,0 +1,17 @@
+-- `rates::is_rate` meets its contract: each way is one of the two tests.
+-- Assumes nothing.
+use Rattle.rates.specs.Rates.{isRate}
+use Rattle.rates.proofs.Numbers.{lit0, lit1}
+use Rattle.rates.proofs.is_rate.Statement.{statement}
+use Rattle.rates.proofs.is_rate.Tie as tie
+
+returns : tie.Need-returns
+unfolding isRate
+returns c = rw (← lit0, ← lit1, c .if1 .taken)
+
+returns-2 : tie.Need-returns-2
+unfolding isRate
+returns-2 c = rw (← lit0, ← lit1, c .if1 .left)
+
+pub is-rate-spec : {M : Type 1} → statement M
+is-rate-spec = tie.close (tie.spec returns returns-2)

@@ -1,0 +1,43 @@
+-- A stream of flows as three lists: serial days, currencies as numbers, and amounts. Assumes nothing.
+use Prim.Native.Nat.{ℕ, zero, suc, _+_, _/_, _%_}
+use mathlib.Core.List.{List, [], _∷_}
+use lib.Dec.{ltb}
+use lib.ListN.{length, getD}
+use lib.Ieee.{Float, nan}
+use Rattle.paper.specs.Outcome.{pick}
+use Rattle.calendar.specs.Dates.{isDay, theDate}
+use Rattle.calendar.specs.declared.Date.{Date}
+use Rattle.cash_amount.specs.declared.AmountAnswer.{AmountAnswer}
+use Rattle.cash_amount.specs.declared.Currency.{Currency}
+use Rattle.cash_flow.specs.declared.CashFlow.{CashFlow}
+use Rattle.rates.specs.Rates.{StreamPromise}
+use Rattle.rates.specs.declared.FlatRate.{FlatRate}
+
+-- the date of a serial day; outside the calendar, one that does not exist
+unfoldable pub dateAt : ℕ → Date
+dateAt n = pick (isDay (record { 0 = n })) (theDate n) (record { year = 0; month = 0; day = 0 })
+
+-- the currency whose bytes are first * 65536 + second * 256 + third; from 16777216 on, one that is malformed
+unfoldable pub currencyAt : ℕ → Currency
+currencyAt n =
+    pick (ltb n 16777216)
+    (record { first = n / 65536; second = n / 256 % 256; third = n % 256 })
+    (record { first = 0; second = 0; third = 0 })
+
+-- the flow at place i; a day or a currency that its list does not have is 0, so it is refused 1 or 17
+unfoldable pub flowAt : List ℕ → List ℕ → List Float → ℕ → CashFlow
+flowAt days currencies amounts i =
+    record { date = dateAt (getD days i 0); currency = currencyAt (getD currencies i 0); amount = getD amounts i nan }
+
+-- the flows from place i on, so many of them
+unfoldable pub flowsFrom : List ℕ → List ℕ → List Float → ℕ → ℕ → List CashFlow
+flowsFrom days currencies amounts i zero = []
+flowsFrom days currencies amounts i (suc n) = flowAt days currencies amounts i ∷ flowsFrom days currencies amounts (i + 1) n
+
+-- as many flows as there are amounts
+unfoldable pub flowsOf : List ℕ → List ℕ → List Float → List CashFlow
+flowsOf days currencies amounts = flowsFrom days currencies amounts 0 (length amounts)
+
+-- what the entry point promises of its result r
+abbrev pub ListedPromise : FlatRate → Date → List ℕ → List ℕ → List Float → AmountAnswer → Type 0
+ListedPromise rate today days currencies amounts r = StreamPromise rate today (flowsOf days currencies amounts) r

@@ -1,4 +1,5 @@
 pub mod Numbers
+pub mod Judged
 pub mod Walks
 pub mod Bounds
 pub mod OneOutcome

@@ -20,7 +20,7 @@ use Rattle.accrued_interest.specs.Accrued.{running, nextPeriod, goesOn, 
 use Rattle.accrued_interest.specs.declared.CouponPeriod.{CouponPeriod}
 
 pub one-accrued : (n : Note) (today : Date) (r s : YearFraction) → AccruedPromise n today r → AccruedPromise n today s → r ≡ s
-one-accrued n today r s p q = same-fraction-answer r s (p ∙ sym q)
+one-accrued n today r s p q = same-fraction-answer r s (p .0 ∙ sym (q .0))
 
 -- the number of a refusal of the walk
 within-numbered : (k : ℕ) (n : Note) (today : Date) (p : CouponPeriod) → Numbered (periodWithin k n today p)

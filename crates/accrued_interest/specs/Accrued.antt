@@ -6,19 +6,19 @@ use mathlib.Core.Bool.{Bool, true, false}
 use lib.IntN.{pos, _*ℤ_}
 use lib.Ieee.{Float, binary64, mul, ofBits}
 use Rattle.paper.specs.Outcome.{Outcome, given, refused, unless, andThen, pick, both}
-use Rattle.rounding.specs.Close.{numerator, denominator}
+use Rattle.rounding.specs.Close.{Close}
 use Rattle.calendar.specs.Dates.{isDate, isBefore, dayNumber}
 use Rattle.calendar.specs.declared.Date.{Date}
 use Rattle.time_period.specs.Steps.{absent, stepped}
 use Rattle.day_fraction.specs.Exact.{Exact}
 use Rattle.day_fraction.specs.Fractions.{whole, over}
-use Rattle.day_count_conv.specs.Conventions.{fractionOutcome, Values, yearFraction}
+use Rattle.day_count_conv.specs.Conventions.{fractionOutcome, Values, yearFraction, Agree}
 use Rattle.day_count_conv.specs.Conventions as fraction
 use Rattle.day_count_conv.specs.declared.RollDate.the-variants as roll-date
 use Rattle.day_count_conv.specs.declared.RollPeriod.the-variants as roll-period
 use Rattle.day_count_conv.specs.declared.Extras.{Extras}
 use Rattle.day_count_conv.specs.declared.YearFraction.{YearFraction}
-use Rattle.bond.specs.Notes.{noteChecks, firstCouponEnd, interestOn}
+use Rattle.bond.specs.Notes.{noteChecks, firstCouponEnd, interestOn, exactInterest}
 use Rattle.bond.specs.declared.Note.{Note}
 use Rattle.accrued_interest.specs.declared.CouponPeriod.{CouponPeriod}
 use Rattle.accrued_interest.specs.declared.CouponPeriodAnswer.{CouponPeriodAnswer}
@@ -102,17 +102,21 @@ dueBits n fraction elapsed days = mul binary64 (interestOn (whole (pos (n .denom
 abbrev pub inBits : Amounts Float
 inBits = record { nothing = ofBits binary64 0; fractions = fraction.inBits; due = dueBits }
 
--- the same over fractions, the rate as the number its bits mean
+-- the same over fractions
 abbrev pub dueExact : Note → Exact → ℕ → ℕ → Exact
 dueExact n fraction elapsed days =
-    record {
-      num = pos (n .denomination) *ℤ numerator (n .rate) *ℤ fraction .num *ℤ pos elapsed;
-      den = denominator (n .rate) * 100 * fraction .den * days;
-    }
+    let full = exactInterest (n .denomination) (n .rate) fraction in
+    record { num = full .num *ℤ pos elapsed; den = full .den * days }
 
 abbrev pub exactly : Amounts Exact
 exactly = record { nothing = record { num = pos 0; den = 1 }; fractions = fraction.exactly; due = dueExact }
 
--- what the entry point promises of its result r
+-- within 1 / 100,000 of a currency unit of the exact amount
+abbrev pub CloseAmount : Float → Exact → Type 0
+CloseAmount x q = Close 100000 x (q .num) (q .den)
+
+-- what the entry point promises of its result r: its bits, and, for a denomination up to 1,000,000, how far off it is.
+-- The checks judge the rate, and the bound holds for every coupon period, so that neither is asked for again
 abbrev pub AccruedPromise : Note → Date → YearFraction → Type 0
-AccruedPromise n today r = fractionOutcome r ≡ accrued inBits n today
+AccruedPromise n today r =
+    (fractionOutcome r ≡ accrued inBits n today) × (n .denomination ≤ 1000000 → Agree CloseAmount (fractionOutcome r) (accrued exactly n today))

@@ -2,14 +2,21 @@
 -- Assumes nothing.
 use mathlib.Core.Path.{_≡_, sym, _∙_, ap}
 use mathlib.Core.Bool.{true}
+use lib.Dec.{T}
+use lib.Ieee.{binary64, fits}
 use borrow.Author.Needs.{needs}
 use Rattle.paper.specs.Outcome.{Outcome, given, andThen}
 use Rattle.bond.specs.Notes.{noteOutcome, noteChecks}
 use Rattle.bond.specs.declared.Note.{Note}
 use Rattle.bond.proofs.Ends.{passed}
 use Rattle.accrued_interest.specs.Accrued.{accruedOn, accrued, inBits}
+use Rattle.accrued_interest.proofs.Bound.{promised}
 use Rattle.accrued_interest.proofs.accrued_interest.Statement.{statement}
 use Rattle.accrued_interest.proofs.accrued_interest.Tie as tie
+
+-- the rate is an f64
+rate-fits : (c : tie.Start) → T (fits binary64 (c .args .note .rate))
+rate-fits c = search needs
 
 -- the note that its checks give
 checked : (c : tie.After-n) → noteChecks true true (c .before .before .before .args .note) ≡ given (c .n .given .0 .0)
@@ -33,13 +40,15 @@ returns : tie.Need-returns
 unfolding accrued
 returns c =
     let s : tie.Start = c .before .before .before .before .before in
-    c .accrued-on .ensures ∙ sym (ap (λ (o : Outcome Note). andThen o (λ m. accruedOn inBits m (s .args .today))) (checked (c .before .before)))
+    promised (s .args .note) (s .args .today) _ (rate-fits s)
+    (c .accrued-on .ensures ∙ sym (ap (λ (o : Outcome Note). andThen o (λ m. accruedOn inBits m (s .args .today))) (checked (c .before .before))))
 
 returns-2 : tie.Need-returns-2
 unfolding accrued
 returns-2 c =
     let s : tie.Start = c .before .before .before .before in
-    sym (ap (λ (o : Outcome Note). andThen o (λ m. accruedOn inBits m (s .args .today))) (sym (c .before .before .before .check-note .ensures) ∙ ap noteOutcome (c .before .k .given .1)))
+    promised (s .args .note) (s .args .today) _ (rate-fits s)
+    (sym (ap (λ (o : Outcome Note). andThen o (λ m. accruedOn inBits m (s .args .today))) (sym (c .before .before .before .check-note .ensures) ∙ ap noteOutcome (c .before .k .given .1))))
 
 pub accrued-interest-spec : {M : Type 1} → statement M
 accrued-interest-spec =

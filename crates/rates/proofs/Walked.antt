@@ -20,7 +20,8 @@ use Rattle.cash_amount.proofs.AmountAnswer as E
 use Rattle.cash_amount.proofs.AmountAnswer.Laws as E′
 use Rattle.cash_flow.specs.declared.CashFlow.{CashFlow}
 use Rattle.day_fraction.specs.Fractions.{whole}
-use Rattle.rates.specs.Rates.{isRate, streamFrom, discountedStream, streamStart, flowOnto}
+use Rattle.rates.specs.Rates.{isRate, streamFrom, discountedStream}
+use Rattle.rates.specs.Steps.{streamStart, flowOnto}
 use Rattle.rates.specs.declared.FlatRate.{FlatRate}
 use Rattle.rates.proofs.Streams.{stream-more, stream-none}
 

@@ -79,13 +79,6 @@ streamFrom r today sum (f ∷ fs) = andThen (flowAdded r today sum f) (λ next. 
 unfoldable pub discountedStream : FlatRate → Date → List CashFlow → Outcome Float
 discountedStream r today fs = unless (isRate (r .rate)) 15 (streamFrom r today zero fs)
 
--- the same, step by step: what a stream begins with, and what one flow more makes of what stands so far
-unfoldable pub streamStart : FlatRate → Outcome Float
-streamStart r = unless (isRate (r .rate)) 15 (given zero)
-
-unfoldable pub flowOnto : FlatRate → Date → Outcome Float → CashFlow → Outcome Float
-flowOnto r today o f = andThen o (λ sum. flowAdded r today sum f)
-
 -- what the entry points promise of their result r
 abbrev pub FactorPromise : FlatRate → Date → Date → FactorAnswer → Type 0
 FactorPromise rate today t r = factorOutcome r ≡ discountFactor rate today t

@@ -53,7 +53,8 @@ use Rattle.cash_amount.proofs.AmountAnswer.Laws as E′
 use Rattle.cash_flow.specs.declared.CashFlow.{CashFlow}
 use Rattle.cash_flow.proofs.CashFlow as T
 use Rattle.cash_flow.proofs.CashFlow.Laws as T′
-use Rattle.rates.specs.Rates.{discountedStream, streamStart, flowOnto}
+use Rattle.rates.specs.Rates.{discountedStream}
+use Rattle.rates.specs.Steps.{streamStart, flowOnto}
 use Rattle.rates.specs.declared.FlatRate.{FlatRate}
 use Rattle.rates.proofs.FlatRate as R
 use Rattle.rates.proofs.FlatRate.Laws as R′

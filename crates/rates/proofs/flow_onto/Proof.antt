@@ -3,7 +3,7 @@
 use mathlib.Core.Path.{ap}
 use borrow.Author.Needs.{needs}
 use Rattle.cash_amount.specs.Amounts.{amountOutcome}
-use Rattle.rates.specs.Rates.{flowOnto}
+use Rattle.rates.specs.Steps.{flowOnto}
 use Rattle.rates.proofs.flow_onto.Statement.{statement}
 use Rattle.rates.proofs.flow_onto.Tie as tie
 

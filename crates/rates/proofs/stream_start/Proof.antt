@@ -4,7 +4,7 @@ use mathlib.Core.Path.{sym, _∙_}
 use mathlib.Core.Path.{ap}
 use borrow.Author.Tests.{not-true, not-false}
 use borrow.Author.Needs.{needs}
-use Rattle.rates.specs.Rates.{streamStart}
+use Rattle.rates.specs.Steps.{streamStart}
 use Rattle.paper.specs.Outcome.{given}
 use Rattle.rates.proofs.Numbers.{lit0}
 use Rattle.rates.proofs.stream_start.Statement.{statement}

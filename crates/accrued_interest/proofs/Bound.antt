@@ -9,7 +9,6 @@ use lib.Dec.{T, lit<, lit≤}
 use lib.IntN.{pos, _*ℤ_}
 use lib.Ieee.{Float, binary64, mul, fits, ofBits}
 use Rattle.paper.specs.Outcome.{Outcome, given, both}
-use Rattle.rounding.specs.Close.{Close}
 use Rattle.rounding.proofs.Algebra.{ring}
 use Rattle.rounding.proofs.Integers.{plus, minus, of-int, diff-mul}
 use Rattle.rounding.proofs.Near.{near-int}
@@ -23,20 +22,21 @@ use Rattle.calendar.proofs.Order.{not-before}
 use Rattle.day_fraction.specs.Exact.{Exact}
 use Rattle.day_fraction.specs.Fractions.{whole, over}
 use Rattle.day_fraction.proofs.Bounds.{NearTo}
-use Rattle.day_count_conv.specs.Conventions.{yearFraction, Agree}
+use Rattle.day_count_conv.specs.Conventions.{fractionOutcome, yearFraction, Agree}
 use Rattle.day_count_conv.specs.Conventions as fraction
+use Rattle.day_count_conv.specs.declared.YearFraction.{YearFraction}
 use Rattle.day_count_conv.proofs.Agreement.{unless-agree, pick-agree, then-agree, given-agree}
 use Rattle.day_count_conv.proofs.Bounds.{year-near}
 use Rattle.bond.specs.Notes.{noteChecks, firstCouponEnd, interestOn, exactInterest}
 use Rattle.bond.specs.declared.Note.{Note}
 use Rattle.bond.proofs.Ends.{Accepted, passed}
 use Rattle.bond.proofs.AmountBound.{AmountNear, interest-near}
-use Rattle.accrued_interest.specs.Accrued.{running, Begun, goesOn, periodHolding, elapsedDays, periodDays, rolled, dueBits, dueExact, amountDue, accruedIn, accruedFrom, accruedOn, accrued, inBits, exactly, CloseAmount}
+use Rattle.accrued_interest.specs.Accrued.{running, Begun, goesOn, periodHolding, elapsedDays, periodDays, rolled, dueBits, dueExact, amountDue, accruedIn, accruedFrom, accruedOn, accrued, inBits, exactly, CloseAmount, AccruedPromise}
 use Rattle.accrued_interest.specs.declared.CouponPeriod.{CouponPeriod}
 use Rattle.accrued_interest.proofs.Walk.{first-begun, holding-stops}
 
 -- nothing is 0
-nothing-close : Agree CloseAmount (given (ofBits binary64 0)) (given (record { num = pos 0; den = 1 }))
+nothing-close : Agree CloseAmount (given (inBits .nothing)) (given (exactly .nothing))
 unfolding ofBits
 nothing-close = (lit≤ tt, (tt, lit≤ tt))
 
@@ -45,12 +45,12 @@ sides : (e p m c d : ℕ) → (e * p + 0 * m) * (c * d) + (p * 0 + m * e) * (1 *
 sides e p m c d = simp ring (omega arith)
 
 -- an amount, times elapsed days over period days
-part-close : (x : Float) (q : Exact) (elapsed days : ℕ) → elapsed ≤ days → 1 ≤ days → days ≤ 3652059 → AmountNear x q → Close 100000 (mul binary64 x (over (pos elapsed) days)) (q .num *ℤ pos elapsed) (q .den * days)
+part-close : (x : Float) (q : Exact) (elapsed days : ℕ) → elapsed ≤ days → 1 ≤ days → days ≤ 3652059 → AmountNear x q → CloseAmount (mul binary64 x (over (pos elapsed) days)) (record { num = q .num *ℤ pos elapsed; den = q .den * days })
 part-close x q elapsed days h k l A =
     let E = near-div (near-int (pos elapsed) elapsed (omega arith) (omega arith)) days 1 0 1 (omega arith) (omega arith) (omega arith) zero-le (lit≤ tt) (omega arith) (lit< tt) in
     let M = near-mul E A 35 (lit≤ tt) (lit≤ tt) (lit< tt) (lit< tt) in
-    subst (λ (y : Float). Close 100000 y (q .num *ℤ pos elapsed) (q .den * days)) (mul-turned binary64 (over (pos elapsed) days) x)
-    (near-close M (diff-mul (of-int (q .num)) (of-int (pos elapsed))) 100000 (q .den * days) (sides elapsed (plus (q .num)) (minus (q .num)) (q .den) days) (lit≤ tt))
+    subst (λ (y : Float). CloseAmount y (record { num = q .num *ℤ pos elapsed; den = q .den * days })) (mul-turned binary64 (over (pos elapsed) days) x)
+    (near-close M (diff-mul (of-int (q .num)) (of-int (pos elapsed))) _ (q .den * days) (sides elapsed (plus (q .num)) (minus (q .num)) (q .den) days) (lit≤ tt))
 
 module _ (n : Note) (today : Date) (few : n .denomination ≤ 1000000) (held : T (fits binary64 (n .rate))) (a : Accepted n) (dt : isDate today ≡ true) where
   -- what is due in a period that today does not lie past
@@ -99,5 +99,6 @@ accrued-agrees n today few held =
     (λ m e. let k = passed true true n m e in subst (λ (o : Note). Agree CloseAmount (accruedOn inBits o today) (accruedOn exactly o today)) (k .itself) (on-agrees n today few held (k .note)))
 
 -- the bits of a result are all that is left to show
-pub promised : (n : Note) (today : Date) (o : Outcome Float) → T (fits binary64 (n .rate)) → o ≡ accrued inBits n today → (o ≡ accrued inBits n today) × (n .denomination ≤ 1000000 → Agree CloseAmount o (accrued exactly n today))
-promised n today o held e = (e, λ few. subst (λ (p : Outcome Float). Agree CloseAmount p (accrued exactly n today)) (sym e) (accrued-agrees n today few held))
+pub promised : (n : Note) (today : Date) (r : YearFraction) → T (fits binary64 (n .rate)) → fractionOutcome r ≡ accrued inBits n today → AccruedPromise n today r
+promised n today r held e =
+    (e, λ few. subst (λ (o : Outcome Float). Agree CloseAmount o (accrued exactly n today)) (sym e) (accrued-agrees n today (omega (arith, few)) held))

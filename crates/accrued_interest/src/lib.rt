@@ -6,6 +6,8 @@ ghost use lib.IntN.{pos};
 ghost use lib.Signed.{ltZ};
 ghost use Rattle.paper.specs.Outcome.{both};
 ghost use Rattle.calendar.specs.Dates.{isDate, isBefore, dayNumber};
+ghost use Rattle.calendar.specs.Answers.{dateOutcome};
+ghost use Rattle.time_period.specs.Steps.{absent, stepped};
 ghost use Rattle.day_fraction.specs.Fractions.{over};
 ghost use Rattle.day_count_conv.specs.Conventions.{fractionOutcome, yearFraction};
 ghost use Rattle.day_count_conv.specs.Conventions as fraction;
@@ -18,6 +20,8 @@ use day_count_conv::Extras;
 use day_count_conv::RollDate;
 use day_count_conv::RollPeriod;
 use day_count_conv::YearFraction;
+use time_period::TimePeriod;
+use time_period::TimePeriodUnit;
 
 // A coupon period, by its unadjusted dates.
 pub struct CouponPeriod {
@@ -40,22 +44,35 @@ fn is_past(end: Date, today: Date, maturity: Date) -> bool
     calendar::is_before(end, maturity)
 }
 
+// The end a period on. Months go first, and without the call that the other units share: this walk is nearly all of the time.
+fn next_end(p: TimePeriod, t: Date) -> DateAnswer
+    requires { ⌜ isDate t ≡ true ⌝ }
+    ensures { λ r. ⌜ dateOutcome r ≡ stepped p absent t ⌝ }
+{
+    let unit = p.unit;
+    if let TimePeriodUnit::Monthly = unit {
+        return date_step::months_later(t, p.num);
+    }
+    time_period::step(p, t)
+}
+
 // On from the first period until today is not past the end, or the end not before maturity.
 fn period_holding(note: Note, today: Date, first: CouponPeriod) -> CouponPeriodAnswer
     requires { ⌜ (ltZ (pos 0) (note .period .num) ≡ true) × (isDate today ≡ true) × Begun today first ⌝ }
     ensures { λ r. ⌜ periodOutcome r ≡ periodHolding note today first ⌝ }
 {
-    let mut p = first;
-    while is_past(p.end, today, note.maturity) {
-        let start = p.end;
-        match time_period::step(note.period, start) {
-            DateAnswer::Date(end) => {
-                p = CouponPeriod { start, end };
+    let mut start = first.start;
+    let mut end = first.end;
+    while is_past(end, today, note.maturity) {
+        match next_end(note.period, end) {
+            DateAnswer::Date(next) => {
+                start = end;
+                end = next;
             }
             DateAnswer::Refused(n) => return CouponPeriodAnswer::Refused(n),
         }
     }
-    CouponPeriodAnswer::Period(p)
+    CouponPeriodAnswer::Period(CouponPeriod { start, end })
 }
 
 // The year fraction of a period, rolled from its start: the dates are judged.

@@ -6,6 +6,7 @@ use lib.Dec.{T}
 use lib.Ieee.{binary64, fits}
 use borrow.Author.Needs.{needs}
 use Rattle.paper.specs.Outcome.{Outcome, given, andThen}
+use Rattle.day_count_conv.specs.declared.YearFraction.the-variants as year-fraction
 use Rattle.bond.specs.Notes.{noteOutcome, noteChecks}
 use Rattle.bond.specs.declared.Note.{Note}
 use Rattle.bond.proofs.Ends.{passed}
@@ -40,14 +41,14 @@ returns : tie.Need-returns
 unfolding accrued
 returns c =
     let s : tie.Start = c .before .before .before .before .before in
-    promised (s .args .note) (s .args .today) _ (rate-fits s)
+    promised (s .args .note) (s .args .today) (c .accrued-on .result) (rate-fits s)
     (c .accrued-on .ensures ∙ sym (ap (λ (o : Outcome Note). andThen o (λ m. accruedOn inBits m (s .args .today))) (checked (c .before .before))))
 
 returns-2 : tie.Need-returns-2
 unfolding accrued
 returns-2 c =
     let s : tie.Start = c .before .before .before .before in
-    promised (s .args .note) (s .args .today) _ (rate-fits s)
+    promised (s .args .note) (s .args .today) (year-fraction.Refused (c .before .k .given .0 .0)) (rate-fits s)
     (sym (ap (λ (o : Outcome Note). andThen o (λ m. accruedOn inBits m (s .args .today))) (sym (c .before .before .before .check-note .ensures) ∙ ap noteOutcome (c .before .k .given .1))))
 
 pub accrued-interest-spec : {M : Type 1} → statement M

@@ -1,4 +1,5 @@
 pub mod Limits
 pub mod Ends
+pub mod AmountBound
 pub mod OneOutcome
 pub mod Examples

@@ -4,16 +4,18 @@ use Prim.Native.Nat.{ℕ, _+_, _*_, _^_}
 use mathlib.Core.Path.{_≡_}
 use mathlib.Core.Bool.{Bool, true, false, not}
 use lib.Dec.{leb, ltb}
-use lib.IntN.{pos}
+use lib.IntN.{pos, _*ℤ_}
 use lib.Signed.{leZ}
 use lib.Ieee.{Float, nan, inf, fin, up, down, binary64, mul, div, ofInt}
 use Rattle.paper.specs.Outcome.{Outcome, given, refused, unless, andThen, pick, both}
+use Rattle.rounding.specs.Close.{numerator, denominator}
 use Rattle.calendar.specs.Dates.{isDate}
 use Rattle.calendar.specs.Answers.{dateOutcome}
 use Rattle.calendar.specs.declared.Date.{Date}
 use Rattle.calendar.specs.declared.DateAnswer.{DateAnswer}
 use Rattle.date_step.specs.Steps.{existingDate}
 use Rattle.time_period.specs.Steps.{needsTable}
+use Rattle.day_fraction.specs.Exact.{Exact}
 use Rattle.coupon_date.specs.Coupons.{couponDate}
 use Rattle.coupon_date.specs.declared.CouponDate.{CouponDate}
 use Rattle.cash_amount.specs.Amounts.{isCurrency}
@@ -83,6 +85,11 @@ firstCouponEnd n = inYearOf (pick (ltb (n .«issue_date» .month) (n .«coupon_d
 -- each amount is position x denomination x rate / 100 x fraction, left to right
 abbrev pub interestOn : Float → Float → Float → Float
 interestOn nominal rate fraction = mul binary64 (div binary64 (mul binary64 nominal rate) (ofInt binary64 (pos 100))) fraction
+
+-- the same over fractions, on a whole nominal, the rate as the number its bits mean
+abbrev pub exactInterest : ℕ → Float → Exact → Exact
+exactInterest nominal rate fraction =
+    record { num = pos nominal *ℤ numerator rate *ℤ fraction .num; den = denominator rate * 100 * fraction .den }
 
 abbrev pub nominalOf : Float → Note → Float
 nominalOf position n = mul binary64 position (ofInt binary64 (pos (n .denomination)))

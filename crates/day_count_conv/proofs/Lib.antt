@@ -1,4 +1,6 @@
 pub mod Numbers
+pub mod Judged
+pub mod Agreement
 pub mod Walks
 pub mod Bounds
 pub mod OneOutcome

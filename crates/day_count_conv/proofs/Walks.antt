@@ -1,8 +1,8 @@
--- The f64 of a walk's parts is within 1 / 2 ^ 38 of the exact fraction.
+-- The f64 of a walk's parts is near the exact fraction.
 -- Assumes nothing.
 use Prim.Native.Nat.{ℕ, _+_, _*_, _^_, _≤_, _<_, zero-le}
 use mathlib.Core.Path.{_≡_, refl, sym, ap₂, subst}
-use native.Mathlib.Nat.{mul-le-mul-left}
+use native.Mathlib.Nat.{mul-pos, mul-le-mul-left}
 use native.Mathlib.Omega.{arith}
 use lib.Dec.{lit<, lit≤}
 use lib.IntN.{ℤ, pos, natAbs}
@@ -12,9 +12,8 @@ use Rattle.rounding.proofs.Integers.{plus, minus, of-int, diff-add, diff-scale,
 use Rattle.rounding.proofs.Near.{Near, near-int, near-add, near-same, near-weaken}
 use Rattle.rounding.proofs.Product.{whole-mul}
 use Rattle.rounding.proofs.Quotient.{near-div}
-use Rattle.rounding.proofs.CloseLaws.{near-close}
-use Rattle.day_fraction.specs.Exact.{CloseTo}
 use Rattle.day_fraction.specs.Fractions.{over}
+use Rattle.day_fraction.proofs.Bounds.{NearTo, lands}
 use Rattle.day_count_conv.specs.Conventions.{partAdded, partsBits, partExact, partsExact}
 use Rattle.time_period.specs.declared.TimePeriodUnit.{TimePeriodUnit}
 use Rattle.icma.specs.declared.Broken.{Broken}
@@ -58,43 +57,43 @@ sides a b c g d q n f = simp ring (omega arith)
 
 -- (first + last + count) / frequency, for a count below 2 ^ t
 long-near : (first last : Broken) (n f t : ℕ) → BrokenSize first → BrokenSize last → 1 ≤ f → f ≤ 12 → t ≤ 900 → 64 + n < 2 ^ t → n < 2 ^ 53 → 64 + n ≤ f * 10150 → 2 ^ 55 + 0 + 2 ^ (46 + t) ≤ f * 2 ^ 61 → 2 ^ 55 + 0 + 2 ^ (46 + t) < 2 ^ 100
-    → CloseTo (partsBits f (Long first last n)) (partsExact f (Long first last n))
+    → NearTo (partsBits f (Long first last n)) (partsExact f (Long first last n))
 long-near first last n f t sf sl lf uf lt room few most err small =
     let p = partExact first in
     let q = partExact last in
     let S = last-near (first-near first sf) last sl in
     let N = near-add S (near-int (pos n) n (omega arith) few) t lt room (lit< tt) in
     let D = near-div N f 10150 (2 ^ 61) 14 (omega arith) (omega arith) most err (lit≤ tt) (omega arith) small in
-    near-close D (diff-add (diff-add (diff-scale (of-int (p .num)) (q .den)) (diff-scale (of-int (q .num)) (p .den))) (of-int (pos (n * (p .den * q .den)))))
-    (2 ^ 38) (f * (p .den * q .den)) (sides (plus (p .num)) (minus (p .num)) (plus (q .num)) (minus (q .num)) (p .den) (q .den) n f) (lit≤ tt)
+    lands (partsExact f (Long first last n)) D (diff-add (diff-add (diff-scale (of-int (p .num)) (q .den)) (diff-scale (of-int (q .num)) (p .den))) (of-int (pos (n * (p .den * q .den)))))
+    (mul-pos (omega arith) (S .den)) (sides (plus (p .num)) (minus (p .num)) (plus (q .num)) (minus (q .num)) (p .den) (q .den) n f) (lit≤ tt) (lit≤ tt)
 
 -- days / (length x frequency)
-short-near : (days l f : ℕ) → 1 ≤ f → f ≤ 12 → 1 ≤ l → l ≤ 3652059 → days ≤ l + 30 → CloseTo (partsBits f (Short days l)) (partsExact f (Short days l))
+short-near : (days l f : ℕ) → 1 ≤ f → f ≤ 12 → 1 ≤ l → l ≤ 3652059 → days ≤ l + 30 → NearTo (partsBits f (Short days l)) (partsExact f (Short days l))
 short-near days l f lf uf h k s =
     let q : l ≤ l * f = long l f lf in
     let r : l * f ≤ l * 12 = mul-le-mul-left l uf in
     let X = near-div (near-int (pos days) days (omega arith) (omega arith)) (l * f) 32 0 6 (omega arith) (omega arith) (omega arith) zero-le (lit≤ tt) (omega arith) (lit< tt) in
     let Y = subst (λ (y : Float). Near (div binary64 (ofInt binary64 (pos days)) y) days 0 (1 * (l * f)) 32 (0 + 2 ^ (46 + 6))) (sym (whole-mul l f (omega arith) (omega arith))) X in
-    near-close Y (of-int (pos days)) (2 ^ 38) (l * f) (omega arith) (lit≤ tt)
+    lands (partsExact f (Short days l)) Y (of-int (pos days)) (omega arith) (omega arith) (lit≤ tt) (lit≤ tt)
   where
     long : (l f : ℕ) → 1 ≤ f → l ≤ l * f
     long l f h = omega (arith, mul-le-mul-left l h)
 
 -- by the frequency: a count of n periods of m months is below the power of two that the frequency allows
-pub walk-close : (u : TimePeriodUnit) (n f : ℕ) (x : Parts) → Regular u n f → PartsSize (monthsIn u n) x → CloseTo (partsBits f x) (partsExact f x)
-walk-close u n f (Short days l) r s = let w = whole-year u n f r in short-near days l f (w .from) (w .to) (s .0) (s .1) (s .2)
-walk-close u n f (Long first last c) (one-month a b d) s =
+pub walk-near : (u : TimePeriodUnit) (n f : ℕ) (x : Parts) → Regular u n f → PartsSize (monthsIn u n) x → NearTo (partsBits f x) (partsExact f x)
+walk-near u n f (Short days l) r s = let w = whole-year u n f r in short-near days l f (w .from) (w .to) (s .0) (s .1) (s .2)
+walk-near u n f (Long first last c) (one-month a b d) s =
     let k : 1 * c ≤ 119987 = subst (λ (m : ℕ). m * c ≤ 119987) (ap₂ monthsIn a b) (s .2) in
     rw d (long-near first last c 12 17 (s .0) (s .1) (lit≤ tt) (lit≤ tt) (lit≤ tt) (omega arith) (omega arith) (omega arith) (lit≤ tt) (lit< tt))
-walk-close u n f (Long first last c) (three-months a b d) s =
+walk-near u n f (Long first last c) (three-months a b d) s =
     let k : 3 * c ≤ 119987 = subst (λ (m : ℕ). m * c ≤ 119987) (ap₂ monthsIn a b) (s .2) in
     rw d (long-near first last c 4 16 (s .0) (s .1) (lit≤ tt) (lit≤ tt) (lit≤ tt) (omega arith) (omega arith) (omega arith) (lit≤ tt) (lit< tt))
-walk-close u n f (Long first last c) (six-months a b d) s =
+walk-near u n f (Long first last c) (six-months a b d) s =
     let k : 6 * c ≤ 119987 = subst (λ (m : ℕ). m * c ≤ 119987) (ap₂ monthsIn a b) (s .2) in
     rw d (long-near first last c 2 15 (s .0) (s .1) (lit≤ tt) (lit≤ tt) (lit≤ tt) (omega arith) (omega arith) (omega arith) (lit≤ tt) (lit< tt))
-walk-close u n f (Long first last c) (twelve-months a b d) s =
+walk-near u n f (Long first last c) (twelve-months a b d) s =
     let k : 12 * c ≤ 119987 = subst (λ (m : ℕ). m * c ≤ 119987) (ap₂ monthsIn a b) (s .2) in
     rw d (long-near first last c 1 14 (s .0) (s .1) (lit≤ tt) (lit≤ tt) (lit≤ tt) (omega arith) (omega arith) (omega arith) (lit≤ tt) (lit< tt))
-walk-close u n f (Long first last c) (one-year a b d) s =
+walk-near u n f (Long first last c) (one-year a b d) s =
     let k : 12 * c ≤ 119987 = subst (λ (m : ℕ). m * c ≤ 119987) (ap₂ monthsIn a b) (s .2) in
     rw d (long-near first last c 1 14 (s .0) (s .1) (lit≤ tt) (lit≤ tt) (lit≤ tt) (omega arith) (omega arith) (omega arith) (lit≤ tt) (lit< tt))

@@ -149,12 +149,16 @@ inBits = record { simple = bits; walked = partsBits }
 abbrev pub exactly : Values Exact
 exactly = record { simple = exactFraction; walked = partsExact }
 
--- a fraction given is within 1 / 2^38 of the exact one, whose lower number is above 0; and the same is refused
+-- two outcomes agree: the f64 given is close to the exact value given, whose lower number is above 0; or the same is refused
+abbrev pub Agree : (Float → Exact → Type 0) → Outcome Float → Outcome Exact → Type 0
+Agree Near (given x) (given q) = (1 ≤ q .den) × Near x q
+Agree Near (given x) (refused n) = ⊥
+Agree Near (refused n) (given q) = ⊥
+Agree Near (refused m) (refused n) = m ≡ n
+
+-- a fraction given is within 1 / 2^38 of the exact one, and the same is refused
 abbrev pub Within : Outcome Float → Outcome Exact → Type 0
-Within (given x) (given q) = (1 ≤ q .den) × CloseTo x q
-Within (given x) (refused n) = ⊥
-Within (refused n) (given q) = ⊥
-Within (refused m) (refused n) = m ≡ n
+Within o p = Agree CloseTo o p
 
 -- what the entry point promises of its result r: its bits, and how far off it is
 abbrev pub FractionPromise : DayCountConv → Date → Date → Extras → YearFraction → Type 0

@@ -29,8 +29,12 @@ use Rattle.day_fraction.proofs.Adjusted.{Adjusted, adjusted-30E, adjust
 abbrev pub NearTo : Float → Exact → Type 0
 NearTo x q = Near x (plus (q .num)) (minus (q .num)) (q .den) 10150 (2 ^ 62)
 
+-- and so within 1 / 2 ^ 38 of it
+pub near-to-close : {x : Float} (q : Exact) → NearTo x q → CloseTo x q
+near-to-close q N = near-close N (of-int (q .num)) _ (q .den) refl (lit≤ tt)
+
 -- a value near (a - b) / c is near the exact value, where that is the same fraction
-lands : {x : Float} {a b c k e A B : ℕ} (q : Exact) → Near x a b c k e → Diff (q .num) A B → 0 < q .den → a * q .den + B * c ≡ A * c + b * q .den → k ≤ 10150 → e ≤ 2 ^ 62 → NearTo x q
+pub lands : {x : Float} {a b c k e A B : ℕ} (q : Exact) → Near x a b c k e → Diff (q .num) A B → 0 < q .den → a * q .den + B * c ≡ A * c + b * q .den → k ≤ 10150 → e ≤ 2 ^ 62 → NearTo x q
 lands {x} {a} {b} {c} {k} {e} {A} {B} q X D P same h l =
     near-weaken (near-same (near-same X A B (q .den) P same) (plus (q .num)) (minus (q .num)) (q .den) P (omega (arith, ap (λ (n : ℕ). n * q .den) (D .is)))) 10150 (2 ^ 62) h l
 
@@ -94,6 +98,5 @@ module _ (s e : Date) (h : IsDate s) (k : IsDate e) where
   near D30_360 = by-thirties (cut (s .day)) (endDay (s .day) (e .day)) dates-30
   near D30E360 = by-thirties (cut (s .day)) (cut (e .day)) dates-30E
 
-  -- and so within 1 / 2 ^ 38 of it
   pub within : (rule : SimpleRule) → CloseTo (bits rule s e) (exactFraction rule s e)
-  within rule = let q = exactFraction rule s e in near-close (near rule) (of-int (q .num)) _ (q .den) refl (lit≤ tt)
+  within rule = near-to-close (exactFraction rule s e) (near rule)

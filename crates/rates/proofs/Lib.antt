@@ -1,4 +1,5 @@
 pub mod Numbers
 pub mod Streams
+pub mod Walked
 pub mod OneOutcome
 pub mod Examples

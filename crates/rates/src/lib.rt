@@ -5,7 +5,8 @@ ghost use lib.ListN.{length, getD};
 ghost use lib.Ieee.Scale.{finite};
 ghost use Rattle.day_count_conv.specs.Conventions.{fractionOutcome};
 ghost use Rattle.cash_amount.specs.Amounts.{amountOutcome};
-ghost use Rattle.rates.specs.Rates.{isRate, factorOf, fractionTo, isOneCurrency, flowValue, flowAdded, FactorPromise, FlowPromise};
+ghost use Rattle.rates.specs.Rates.{isRate, factorOf, fractionTo, isOneCurrency, flowValue, flowAdded, FactorPromise, FlowPromise, StreamPromise};
+ghost use Rattle.rates.specs.Steps.{streamStart, flowOnto};
 ghost use Rattle.rates.specs.Listed.{dateAt, currencyAt, flowAt, ListedPromise};
 use calendar::Date;
 use calendar::DateAnswer;
@@ -209,4 +210,38 @@ pub fn discount_listed_flows(
         i += 1;
     }
     AmountAnswer::Amount(sum)
+}
+
+// What a stream begins with: 0, or 15 for the rate.
+fn stream_start(rate: FlatRate) -> AmountAnswer
+    ensures { λ r. ⌜ amountOutcome r ≡ streamStart rate ⌝ }
+{
+    if !is_rate(rate.rate) {
+        return AmountAnswer::Refused(paper::NUMBER_OUT_OF_LIMITS);
+    }
+    AmountAnswer::Amount(0.0)
+}
+
+// One flow more, unless one before it was refused.
+fn flow_onto(so_far: AmountAnswer, rate: FlatRate, flow: CashFlow, today: Date) -> AmountAnswer
+    ensures { λ r. ⌜ amountOutcome r ≡ flowOnto rate today (amountOutcome «so_far») flow ⌝ }
+{
+    match so_far {
+        AmountAnswer::Amount(sum) => flow_added(rate, flow, today, sum),
+        AmountAnswer::Refused(n) => AmountAnswer::Refused(n),
+    }
+}
+
+// A stream of records.
+pub fn discount_cash_flow_stream(rate: FlatRate, flows: &[CashFlow], today: Date) -> AmountAnswer
+    ensures { λ r. ⌜ StreamPromise rate today (now (flows .entry)) r ⌝ }
+{
+    let mut so_far = stream_start(rate);
+    let mut i: usize = 0;
+    while i < flows.len() {
+        let flow = flows[i];
+        so_far = flow_onto(so_far, rate, flow, today);
+        i += 1;
+    }
+    so_far
 }

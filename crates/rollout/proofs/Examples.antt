@@ -11,16 +11,20 @@ use Rattle.gregorian.specs.Gregorian.{leap, lengthIn, monthLength, yearLength, 
 use Rattle.calendar.specs.Dates.{isDate, isDay, dayNumber, yearOf, inYear, theDate, monthDate, isBefore, isSame}
 use Rattle.calendar.specs.Answers.{dateOf, weekdayOf}
 use Rattle.calendar.specs.declared.Date.{Date}
-use Rattle.date_step.specs.Steps.{landing, monthsLater, existingDate}
+use Rattle.date_step.specs.Steps.{landing, monthsLater, daysLater, existingDate}
 use Rattle.holidays.specs.Table.{ascendsFrom, isTable, listed}
 use Rattle.holidays.specs.Business.{isWeekend, isBusiness, firstOf, nextFrom, lastOf, prevFrom}
 use Rattle.day_adjust.specs.Adjustment.{nextDate, prevDate, modifiedDate, adjusted}
 use Rattle.day_fraction.specs.Fractions.{exactFraction, bits, impossible}
 use Rattle.day_count_conv.specs.Conventions.{simpleFraction, yearFraction}
+use Rattle.day_count_conv.specs.declared.DayCountConv.the-variants as conv
+use Rattle.day_adjust.specs.declared.DayAdjust.the-variants as rule
+use Rattle.time_period.specs.declared.TimePeriodUnit.the-variants as unit
 use Rattle.coupon_date.specs.Coupons.{couponDate}
 use Rattle.cash_amount.specs.Amounts.{isCapital, isCurrency}
 use Rattle.cash_flow.specs.declared.CashFlow.{CashFlow}
 use Rattle.bond.specs.Notes.{isNoteNumber, isRate, isPosition, periodChecks, termChecks, noteChecks, inYearOf, firstCouponEnd, couponAmount}
+use Rattle.bond.specs.declared.Note.{Note}
 use Rattle.bond.proofs.Examples.{on, euro}
 use Rattle.bond.proofs.Examples as notes
 use Rattle.rollout.specs.Rollout.{paid, couponFlow, flowsAfter, noteFlows, cashFlows, fitted, dayOf, amountOf}
@@ -54,3 +58,28 @@ pub record Room : Type 0 where
 pub room : Room
 unfolding dayNumber before yearLength monthLength lengthIn leap
 room = record { answer = rw the-listing; days = rw the-listing; amounts = rw the-listing; too-few-days = rw the-listing; too-few-amounts = rw the-listing }
+
+-- a refusal beyond the room comes before 16: 10D from 9999-12-15 leaves the calendar after one more coupon, and no place is lent
+abbrev late : Note
+late =
+    record {
+      number = notes.listed .number;
+      «issue_date» = on 9999 11 15;
+      maturity = on 9999 12 31;
+      «coupon_date» = record { day = 15; month = 12 };
+      period = notes.every (pos 10) unit.Daily;
+      «day_count_convention» = conv.Act365;
+      «business_day_rule» = rule.None;
+      denomination = 1000;
+      rate = notes.listed .rate;
+      currency = euro;
+    }
+
+pub past-the-room : fitted late one [] [] [] ≡ refused 1
+unfolding leap lengthIn monthLength yearLength before unitOf isDate isDay dayNumber yearOf inYear theDate isBefore isSame dateOf weekdayOf landing daysLater existingDate ascendsFrom isTable listed isWeekend isBusiness firstOf nextFrom nextDate adjusted exactFraction bits impossible simpleFraction yearFraction couponDate isCapital isCurrency isNoteNumber isRate isPosition periodChecks termChecks noteChecks inYearOf firstCouponEnd couponAmount paid couponFlow flowsAfter noteFlows cashFlows mul div ofInt
+past-the-room = refl
+
+-- and the note's own checks before its flows, whatever the room
+pub position-first : fitted late (fin false 1953125 (pos 10)) (5 ∷ 5 ∷ []) [] [] ≡ refused 15
+unfolding isPosition noteChecks isNoteNumber isRate cashFlows
+position-first = refl

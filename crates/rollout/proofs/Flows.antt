@@ -135,6 +135,10 @@ module _ (n : Note) (position : Float) (table : List ℕ) where
             ∙ ap (followed (couponFlow n position table t u t)) (r u (s .0) (omega (arith, s .1)) (omega (arith, s .1)))
             ∙ sym (after-next k t (given u) e q)
 
+    -- so a larger calendar would change nothing
+    pub never-used-up : (k : ℕ) (t : Date) → isDate t ≡ true → 3652059 ≤ k → flowsAfter k n position table t ≡ flowsAfter 3652059 n position table t
+    never-used-up k t d h = let f = number-from t (date-yes t d) in enough k 3652059 t d (omega arith) (omega arith)
+
   -- ---- a turn by what is due
 
   turned-by : (due next : Due) (o : Outcome CashFlow) (r : Step) → flowsDue n position table due ≡ followed o (flowsDue n position table next) → Dated next → most next < most due → r ≡ stepOf o next → Turned n position table due r

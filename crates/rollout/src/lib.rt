@@ -139,12 +139,12 @@ fn write(note: Note, position: f64, table: &[u32], n: usize, days: &mut [u32], a
     let mut k: usize = 0;
     let mut due = Due::First;
     while k < n {
-        let Step::Pay(day, amount, next) = turn(note, position, table, due) else {
+        let Step::Pay(day, amount, after) = turn(note, position, table, due) else {
             return;
         };
         days[k] = day;
         amounts[k] = amount;
-        due = next;
+        due = after;
         k += 1;
     }
 }

@@ -1,12 +1,12 @@
 -- The product of two values that are `Near` fractions, of either sign. Assumes nothing.
-use mathlib.Core.Path.{_≡_, sym, _∙_, subst}
+use mathlib.Core.Path.{_≡_, refl, sym, _∙_, ap, ap₂, subst}
 use Prim.Native.Nat.{ℕ, _+_, _*_, _^_, _≤_, _<_}
-use native.Mathlib.Nat.{le-of-lt, mul-le-mul-left, mul-le-mul-right, mul-lt-mul-of-pos-left, mul-lt-mul-of-pos-right, mul-right-comm, le-of-mul-le-mul-left, eq-of-mul-eq-mul-right, mul-pos}
+use native.Mathlib.Nat.{le-of-lt, mul-le-mul-left, mul-le-mul-right, mul-lt-mul-of-pos-left, mul-lt-mul-of-pos-right, mul-comm, mul-right-comm, le-of-mul-le-mul-left, eq-of-mul-eq-mul-right, mul-pos}
 use native.Mathlib.Omega.{arith}
-use mathlib.Core.Bool.{false}
+use mathlib.Core.Bool.{Bool, true, false, cond}
 use lib.IntN.{pos}
-use lib.Dec.{lit<}
-use lib.Ieee.{Float, fin, binary64, up, down, mul, ofInt}
+use lib.Dec.{lit<, eqb}
+use lib.Ieee.{Float, nan, inf, fin, Format, binary64, unlike, up, down, round, mul, ofInt}
 use lib.Ieee.Fits.{down-pos}
 use lib.Ieee.Scale.{round-same}
 use Rattle.rounding.proofs.Algebra.{ring, Apart, cross, plusOf, minusOf, of-size}
@@ -72,3 +72,24 @@ whole-mul a b h i =
 
     both : (M N c d : ℕ) → M ≡ a * c → N ≡ b * d → M * N * 1 ≡ a * b * (c * d)
     both M N c d p q = rw (p, q) (simp ring)
+
+-- the product is one in either order
+unlike-turned : (s t : Bool) → unlike s t ≡ unlike t s
+unlike-turned true true = refl
+unlike-turned true false = refl
+unlike-turned false true = refl
+unlike-turned false false = refl
+
+pub mul-turned : (f : Format) (x y : Float) → mul f x y ≡ mul f y x
+unfolding mul
+mul-turned f nan nan = refl
+mul-turned f nan (inf t) = refl
+mul-turned f nan (fin t n d) = refl
+mul-turned f (inf s) nan = refl
+mul-turned f (inf s) (inf t) = ap inf (unlike-turned s t)
+mul-turned f (inf s) (fin t n d) = ap (λ (b : Bool). cond (eqb n 0) nan (inf b)) (unlike-turned s t)
+mul-turned f (fin s m e) nan = refl
+mul-turned f (fin s m e) (inf t) = ap (λ (b : Bool). cond (eqb m 0) nan (inf b)) (unlike-turned s t)
+mul-turned f (fin s m e) (fin t n d) =
+    ap (λ (b : Bool). round f b (m * up e * (n * up d)) (down e * down d)) (unlike-turned s t)
+    ∙ ap₂ (round f (unlike t s)) (mul-comm (m * up e) (n * up d)) (mul-comm (down e) (down d))

@@ -1,0 +1,4 @@
+pub mod Walk
+pub mod Bound
+pub mod OneOutcome
+pub mod Examples

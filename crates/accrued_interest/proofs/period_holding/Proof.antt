@@ -1,0 +1,84 @@
+-- `accrued_interest::period_holding` meets its contract: each turn leaves the same walk to be made, and leads nearer to the calendar's end.
+-- Assumes nothing.
+use mathlib.Core.Path.{_≡_, refl, sym, _∙_, ap}
+use mathlib.Core.Bool.{true}
+use borrow.Author.Needs.{needs}
+use Rattle.paper.specs.Outcome.{given}
+use Rattle.calendar.specs.Answers.{dateOutcome}
+use Rattle.accrued_interest.specs.Accrued.{running, Begun, nextPeriod, goesOn, periodHolding}
+use Rattle.accrued_interest.proofs.Walk.{ahead, next-given, next-refused, next-begun, holding-next, holding-refused, holding-there}
+use Rattle.accrued_interest.proofs.period_holding.Statement.{statement}
+use Rattle.accrued_interest.proofs.period_holding.Tie as tie
+
+abbrev Inv-loop : tie.InvT-loop
+Inv-loop note today p₀ p = Begun today p × (periodHolding note today p ≡ periodHolding note today p₀)
+
+abbrev μ-loop : tie.MeasureT-loop
+μ-loop note today p₀ p = ahead p
+
+-- there was more to go, and the step was made
+going : (c : tie.Then1 Inv-loop μ-loop) → goesOn (c .before .before .before .args .note) (c .before .before .before .args .today) (c .before .before .loop .p) ≡ true
+unfolding goesOn
+going c = sym (c .before .is-past .ensures) ∙ c .if1 .taken
+
+turned : (c : tie.After-end Inv-loop μ-loop) → nextPeriod (c .before .before .before .before .before .before .before .args .note) (c .before .before .before .before .before .before .loop .p) ≡ given (running (c .before .before .before .before .before .before .loop .p .end) (c .end .given .0 .0))
+turned c = next-given _ _ _ (sym (c .before .before .step .ensures) ∙ ap dateOutcome (c .end .given .1))
+
+loop-holds : tie.Need-loop-holds Inv-loop μ-loop
+loop-holds c = (c .pre .2, refl)
+
+is-past-requires : tie.Need-is-past-requires Inv-loop μ-loop
+is-past-requires c κs = search needs
+
+step-requires : tie.Need-step-requires Inv-loop μ-loop
+step-requires c κs = c .before .before .before .loop .inv .0 .ended
+
+enum-known-end : tie.Need-enum-known-end Inv-loop μ-loop
+enum-known-end c = search needs
+
+loop-less : tie.Need-loop-less Inv-loop μ-loop
+loop-less c =
+    let l = c .before .before .before .before .before .before .before .loop in
+    let s : tie.Start Inv-loop μ-loop = c .before .before .before .before .before .before .before .before in
+    next-begun (s .args .note) (s .args .today) (s .pre .0) (s .pre .1) (l .p) _ (l .inv .0) (going (c .before .before .before .before .before)) (turned (c .before)) .1
+
+loop-again : tie.Need-loop-again Inv-loop μ-loop
+loop-again c =
+    let l = c .before .before .before .before .before .before .before .loop in
+    let s : tie.Start Inv-loop μ-loop = c .before .before .before .before .before .before .before .before in
+    let g = going (c .before .before .before .before .before) in (
+      next-begun (s .args .note) (s .args .today) (s .pre .0) (s .pre .1) (l .p) _ (l .inv .0) g (turned (c .before)) .0,
+      holding-next (s .args .note) (s .args .today) (s .pre .0) (s .pre .1) (l .p) _ (l .inv .0) g (turned (c .before)) ∙ l .inv .1,
+    )
+
+enum-known-n : tie.Need-enum-known-n Inv-loop μ-loop
+enum-known-n c = search needs
+
+returns : tie.Need-returns Inv-loop μ-loop
+returns c =
+    let l = c .before .before .before .before .before .before .before .loop in
+    let s : tie.Start Inv-loop μ-loop = c .before .before .before .before .before .before .before .before in
+    holding-refused (s .args .note) (s .args .today) (s .pre .0) (s .pre .1) (l .p) _ (going (c .before .before .before .before .before)) (next-refused _ _ _ (sym (c .before .before .before .step .ensures) ∙ ap dateOutcome (c .before .n .given .1))) ∙ l .inv .1
+
+returns-2 : tie.Need-returns-2 Inv-loop μ-loop
+unfolding goesOn
+returns-2 c =
+    let l = c .before .before .loop in
+    let s : tie.Start Inv-loop μ-loop = c .before .before .before in
+    holding-there (s .args .note) (s .args .today) (s .pre .0) (s .pre .1) (l .p) (sym (c .before .is-past .ensures) ∙ c .if1 .left) ∙ l .inv .1
+
+pub period-holding-spec : {M : Type 1} → statement M
+period-holding-spec =
+    tie.close
+    (tie.spec
+    Inv-loop
+    μ-loop
+    loop-holds
+    is-past-requires
+    step-requires
+    enum-known-end
+    loop-less
+    loop-again
+    enum-known-n
+    returns
+    returns-2)

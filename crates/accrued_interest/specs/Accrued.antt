@@ -1,0 +1,122 @@
+-- Accrued interest on one note: its refusals in their order, its f64, and its exact value.
+-- Assumes nothing.
+use Prim.Native.Nat.{ℕ, zero, suc, _-_, _*_, _<_, _≤_}
+use mathlib.Core.Path.{_≡_}
+use mathlib.Core.Bool.{Bool, true, false}
+use lib.IntN.{pos, _*ℤ_}
+use lib.Ieee.{Float, binary64, mul, ofBits}
+use Rattle.paper.specs.Outcome.{Outcome, given, refused, unless, andThen, pick, both}
+use Rattle.rounding.specs.Close.{Close}
+use Rattle.calendar.specs.Dates.{isDate, isBefore, dayNumber}
+use Rattle.calendar.specs.declared.Date.{Date}
+use Rattle.time_period.specs.Steps.{absent, stepped}
+use Rattle.day_fraction.specs.Exact.{Exact}
+use Rattle.day_fraction.specs.Fractions.{whole, over}
+use Rattle.day_count_conv.specs.Conventions.{fractionOutcome, Values, yearFraction, Agree}
+use Rattle.day_count_conv.specs.Conventions as fraction
+use Rattle.day_count_conv.specs.declared.RollDate.the-variants as roll-date
+use Rattle.day_count_conv.specs.declared.RollPeriod.the-variants as roll-period
+use Rattle.day_count_conv.specs.declared.Extras.{Extras}
+use Rattle.day_count_conv.specs.declared.YearFraction.{YearFraction}
+use Rattle.bond.specs.Notes.{noteChecks, firstCouponEnd, interestOn, exactInterest}
+use Rattle.bond.specs.declared.Note.{Note}
+use Rattle.accrued_interest.specs.declared.CouponPeriod.{CouponPeriod}
+use Rattle.accrued_interest.specs.declared.CouponPeriodAnswer.{CouponPeriodAnswer}
+use Rattle.accrued_interest.specs.declared.CouponPeriodAnswer.the-variants as period-answer
+
+-- the outcome that an answer is
+abbrev pub periodOutcome : CouponPeriodAnswer → Outcome CouponPeriod
+periodOutcome (period-answer.Period p) = given p
+periodOutcome (period-answer.Refused n) = refused n
+
+-- a period runs from one date to another; the first from the issue date to the first coupon end
+abbrev pub running : Date → Date → CouponPeriod
+running start end = record { start = start; end = end }
+
+-- a period that has begun: it runs forward, and today is not before its start
+pub record Begun (today : Date) (p : CouponPeriod) : Type 0 where
+  pub started : isDate (p .start) ≡ true
+  pub ended : isDate (p .end) ≡ true
+  pub forward : dayNumber (p .start) < dayNumber (p .end)
+  pub reached : dayNumber (p .start) ≤ dayNumber today
+
+-- each later one from the end of the one before to the next end; a date outside the range stops it with 1
+unfoldable pub nextPeriod : Note → CouponPeriod → Outcome CouponPeriod
+nextPeriod n p = andThen (stepped (n .period) absent (p .end)) (λ end. given (running (p .end) end))
+
+-- an end belongs to the period it closes; the walk stops at the first end not before today or not before maturity
+unfoldable pub goesOn : Note → Date → CouponPeriod → Bool
+goesOn n today p = both (isBefore (p .end) today) (isBefore (p .end) (n .maturity))
+
+-- the period where it stops; the calendar has no more than 3652060 steps
+unfoldable pub periodWithin : ℕ → Note → Date → CouponPeriod → Outcome CouponPeriod
+periodWithin zero n today p = refused 1
+periodWithin (suc k) n today p = elim (goesOn n today p) [ true ↦ andThen (nextPeriod n p) (periodWithin k n today) | false ↦ given p ]
+
+unfoldable pub periodHolding : Note → Date → CouponPeriod → Outcome CouponPeriod
+periodHolding n today first = periodWithin 3652060 n today first
+
+-- elapsed days, and period days
+abbrev pub elapsedDays : CouponPeriod → Date → ℕ
+elapsedDays p today = dayNumber today - dayNumber (p .start)
+
+abbrev pub periodDays : CouponPeriod → ℕ
+periodDays p = dayNumber (p .end) - dayNumber (p .start)
+
+-- what is accrued: nothing, or an amount of a note's fraction, elapsed days and period days
+pub record Amounts (A : Type 0) : Type 0 where
+  pub nothing : A
+  pub fractions : Values A
+  pub due : Note → A → ℕ → ℕ → A
+
+-- the first period here rolls from the issue date, and so each from its start
+abbrev pub rolled : Note → CouponPeriod → Extras
+rolled n p = record { roll = roll-date.Date (p .start); period = roll-period.Period (n .period) }
+
+unfoldable pub amountDue : {A : Type 0} → Amounts A → Note → Date → CouponPeriod → Outcome A
+amountDue v n today p =
+    andThen (yearFraction (v .fractions) (n .«day_count_convention») (p .start) (p .end) (rolled n p))
+    (λ fraction. given (v .due n fraction (elapsedDays p today) (periodDays p)))
+
+-- a period whose end is not before maturity gives 0, as does a day past the last end
+unfoldable pub accruedIn : {A : Type 0} → Amounts A → Note → Date → CouponPeriod → Outcome A
+accruedIn v n today p = pick (isBefore (p .end) (n .maturity)) (amountDue v n today p) (given (v .nothing))
+
+unfoldable pub accruedFrom : {A : Type 0} → Amounts A → Note → Date → CouponPeriod → Outcome A
+accruedFrom v n today first = andThen (periodHolding n today first) (accruedIn v n today)
+
+unfoldable pub accruedOn : {A : Type 0} → Amounts A → Note → Date → Outcome A
+accruedOn v n today =
+    unless (isDate today) 1
+    (pick (isBefore today (n .«issue_date»)) (given (v .nothing))
+    (andThen (firstCouponEnd n) (λ end. accruedFrom v n today (running (n .«issue_date») end))))
+
+-- order: the note's checks (no position and no table are taken), 1 for today, the 0 before issue, the walk's 1, then, where an amount is due, its fraction's refusals
+unfoldable pub accrued : {A : Type 0} → Amounts A → Note → Date → Outcome A
+accrued v n today = andThen (noteChecks true true n) (λ m. accruedOn v m today)
+
+-- the f64: the full amount, denomination x rate / 100 x fraction, times elapsed days over period days; the 0 is +0
+abbrev pub dueBits : Note → Float → ℕ → ℕ → Float
+dueBits n fraction elapsed days = mul binary64 (interestOn (whole (pos (n .denomination))) (n .rate) fraction) (over (pos elapsed) days)
+
+abbrev pub inBits : Amounts Float
+inBits = record { nothing = ofBits binary64 0; fractions = fraction.inBits; due = dueBits }
+
+-- the same over fractions
+abbrev pub dueExact : Note → Exact → ℕ → ℕ → Exact
+dueExact n fraction elapsed days =
+    let full = exactInterest (n .denomination) (n .rate) fraction in
+    record { num = full .num *ℤ pos elapsed; den = full .den * days }
+
+abbrev pub exactly : Amounts Exact
+exactly = record { nothing = record { num = pos 0; den = 1 }; fractions = fraction.exactly; due = dueExact }
+
+-- within 1 / 100,000 of a currency unit of the exact amount
+abbrev pub CloseAmount : Float → Exact → Type 0
+CloseAmount x q = Close 100000 x (q .num) (q .den)
+
+-- what the entry point promises of its result r: its bits, and, for a denomination up to 1,000,000, how far off it is.
+-- The checks judge the rate, and the bound holds for every coupon period, so that neither is asked for again
+abbrev pub AccruedPromise : Note → Date → YearFraction → Type 0
+AccruedPromise n today r =
+    (fractionOutcome r ≡ accrued inBits n today) × (n .denomination ≤ 1000000 → Agree CloseAmount (fractionOutcome r) (accrued exactly n today))

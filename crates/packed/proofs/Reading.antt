@@ -1,0 +1,81 @@
+-- What a note that is given says of its bytes; and the ways to answer.
+-- Assumes nothing.
+use Prim.Native.Nat.{ℕ, _+_, _≤_, _<_}
+use mathlib.Core.Path.{_≡_, sym, ap, _∙_}
+use mathlib.Core.Bool.{Bool, true, false}
+use mathlib.Core.List.{List, _++_}
+use borrow.Author.Tests.{le-leb, lt-leb, leb-true}
+use lib.Dec.{leb, eqb}
+use lib.ListN.{length, drop}
+use Rattle.paper.specs.Outcome.{given, refused, unless, andThen, both}
+use Rattle.paper.proofs.Outcomes.{both-true, unless-given, then-given}
+use Rattle.day_count_conv.specs.Conventions.{conventionOf}
+use Rattle.bond.specs.Notes.{noteChecks}
+use Rattle.bond.specs.declared.Note.{Note}
+use Rattle.bond.proofs.Ends.{passed}
+use Rattle.packed_note.specs.Codes.{unitOfCode, numberGood}
+use Rattle.packed_note.specs.Records.{rawOf, noteWith, checkedUnit, noteIn}
+use Rattle.packed_note.specs.declared.Raw.{Raw}
+use Rattle.packed.specs.Tables.{tableCount, daysFrom, tableDays, isWhole, isTableIn, noteInBytes, unpacked, readInto, ReadPromise}
+use Rattle.packed.specs.declared.PackedAnswer.the-variants as packed-answer
+use Rattle.packed.proofs.Tables.{length-days}
+
+-- ---- a note is given: its bytes are whole, and its table is taken
+
+unfoldable pub taken-in : (table : Bool) (r : Raw) (n : Note) → andThen (unitOfCode (r .terms .unit)) (checkedUnit table r) ≡ given n → table ≡ true
+unfolding checkedUnit
+taken-in table r n e =
+    let u = then-given (unitOfCode (r .terms .unit)) (checkedUnit table r) n e in
+    let c = then-given (conventionOf (r .terms .convention)) (λ c. noteChecks true table (noteWith r (u .0) c)) n (u .2) in
+    passed true table (noteWith r (u .0) (c .0)) n (c .2) .table-taken
+
+pub note-given : (whole table : Bool) (r : Raw) (n : Note) → noteIn whole table r ≡ given n → (whole ≡ true) × (table ≡ true)
+unfolding noteIn
+note-given whole table r n e =
+    let a = unless-given (both whole (both (numberGood (r .count) (r .digits)) (eqb (r .spare) 0))) 18 _ n e in
+    (both-true whole (both (numberGood (r .count) (r .digits)) (eqb (r .spare) 0)) (a .0) .0, taken-in table r n (a .1))
+
+pub bytes-given : (s : List ℕ) (n : Note) → noteInBytes s ≡ given n → (isWhole s ≡ true) × (isTableIn s ≡ true)
+unfolding noteInBytes
+bytes-given s n e = note-given (isWhole s) (isTableIn s) (rawOf s) n e
+
+pub few-days : (s : List ℕ) → isTableIn s ≡ true → tableCount s ≤ 4096
+unfolding isTableIn
+few-days s e = leb-true (tableCount s) 4096 (both-true (leb (tableCount s) 4096) _ e .0)
+
+-- ---- the ways to answer
+
+pub bytes-short : (s : List ℕ) → isWhole s ≡ false → refused 18 ≡ noteInBytes s
+unfolding noteInBytes noteIn
+bytes-short s e = rw (e)
+
+pub bytes-whole : (s : List ℕ) (raw : Raw) (table : Bool) → isWhole s ≡ true → raw ≡ rawOf s → table ≡ isTableIn s → noteIn true table raw ≡ noteInBytes s
+unfolding noteInBytes
+bytes-whole s raw table e f g = rw (e, f, g)
+
+into-given : (s : List ℕ) (n : Note) (places : ℕ) → noteInBytes s ≡ given n → readInto places s ≡ unless (leb (length (tableDays s)) places) 16 (given (record { note = n; days = tableDays s }))
+unfolding readInto unpacked
+into-given s n places e = rw (e)
+
+into-refused : (s : List ℕ) (k places : ℕ) → noteInBytes s ≡ refused k → readInto places s ≡ refused k
+unfolding readInto unpacked
+into-refused s k places e = rw (e)
+
+pub reads-refused : (s old : List ℕ) (k : ℕ) → noteInBytes s ≡ refused k → ReadPromise s old old (packed-answer.Refused k)
+reads-refused s old k e = record { answer = rw (into-refused s k (length old) e); places = rw (into-refused s k (length old) e) }
+
+module _ (s old : List ℕ) (n : Note) (m : ℕ) (e : noteInBytes s ≡ given n) (f : m ≡ tableCount s) where
+  counted : length (tableDays s) ≡ m
+  counted = length-days s 0 (tableCount s) ∙ sym f
+
+  pub reads-short : length old < m → ReadPromise s old old (packed-answer.Refused 16)
+  reads-short h = record { answer = rw (short); places = rw (short) }
+    where
+      short : readInto (length old) s ≡ refused 16
+      short = into-given s n (length old) e ∙ rw (lt-leb (length (tableDays s)) (length old) (rw (counted) h))
+
+  pub reads-all : (new : List ℕ) → m ≤ length old → new ≡ daysFrom s 0 m ++ drop m old → ReadPromise s old new (packed-answer.Packed (record { note = n; holidays = m }))
+  reads-all new h g = record { answer = rw (all, counted); places = rw (all, counted) (g ∙ ap (λ (k : ℕ). daysFrom s 0 k ++ drop m old) f) }
+    where
+      all : readInto (length old) s ≡ given (record { note = n; days = tableDays s })
+      all = into-given s n (length old) e ∙ rw (le-leb (length (tableDays s)) (length old) (rw (counted) h))

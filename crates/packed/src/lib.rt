@@ -1,0 +1,129 @@
+// A packed note and the holiday table behind it, read from bytes.
+ghost use mathlib.Core.Path.{_≡_};
+ghost use mathlib.Core.Bool.{true};
+ghost use Prim.Native.Nat.{_+_, _*_, _≤_, _<_};
+ghost use mathlib.Core.List.{_++_};
+ghost use lib.ListN.{length, drop};
+ghost use Rattle.holidays.specs.Table.{ascendsFrom};
+ghost use Rattle.packed.specs.Tables.{tableCount, dayAt, daysFrom, isWhole, isTableIn, noteInBytes, ReadPromise};
+ghost use Rattle.bond.specs.Notes.{noteOutcome};
+use bond::Note;
+use bond::NoteAnswer;
+
+pub struct PackedNote {
+    pub note: Note,
+    pub holidays: usize,
+}
+
+pub enum PackedAnswer {
+    Packed(PackedNote),
+    Refused(u32),
+}
+
+const MOST_HOLIDAYS: usize = 4096;
+
+const LAST_DAY: u32 = 3652059;
+
+fn table_count(s: &[u8]) -> usize
+    requires { ⌜ 32 ≤ length (now s) ⌝ }
+    ensures { λ r. ⌜ (r ≡ tableCount (now (s .entry))) × (r < 65536) ⌝ }
+{
+    bit_fields::read_field(s, 240, 16) as usize
+}
+
+fn day_at(s: &[u8], i: usize) -> u32
+    requires { ⌜ (i < 4096) × (278 + 22 * i ≤ 8 * length (now s)) ⌝ }
+    ensures { λ r. ⌜ r ≡ dayAt (now (s .entry)) i ⌝ }
+{
+    bit_fields::read_field(s, 256 + 22 * i, 22) as u32
+}
+
+// Every byte is there, none is left over, and the bits behind the last day are zero; behind a count above 4,096 nothing is judged.
+fn is_whole(s: &[u8]) -> bool
+    ensures { λ r. ⌜ r ≡ isWhole (now (s .entry)) ⌝ }
+{
+    if s.len() < 32 {
+        return false;
+    }
+    let n = table_count(s);
+    if MOST_HOLIDAYS < n {
+        return true;
+    }
+    let end = 256 + 22 * n;
+    if s.len() != (end + 7) / 8 {
+        return false;
+    }
+    bit_fields::read_field(s, end, s.len() * 8 - end) == 0
+}
+
+// Ascending days of the calendar.
+fn days_ascend(s: &[u8], n: usize) -> bool
+    requires { ⌜ (n ≤ 4096) × (256 + 22 * n ≤ 8 * length (now s)) ⌝ }
+    ensures { λ r. ⌜ r ≡ ascendsFrom 1 (daysFrom (now (s .entry)) 0 n) ⌝ }
+{
+    let mut low: u32 = 1;
+    let mut i: usize = 0;
+    while i < n {
+        let d = day_at(s, i);
+        if d < low {
+            return false;
+        }
+        if LAST_DAY < d {
+            return false;
+        }
+        low = d + 1;
+        i += 1;
+    }
+    true
+}
+
+fn is_table_in(s: &[u8], n: usize) -> bool
+    requires { ⌜ (isWhole (now s) ≡ true) × (n ≡ tableCount (now s)) ⌝ }
+    ensures { λ r. ⌜ r ≡ isTableIn (now (s .entry)) ⌝ }
+{
+    if MOST_HOLIDAYS < n {
+        return false;
+    }
+    days_ascend(s, n)
+}
+
+// The days from the first on; places past them keep their contents.
+fn read_days(s: &[u8], n: usize, out: &mut [u32])
+    requires { ⌜ (n ≤ 4096) × (256 + 22 * n ≤ 8 * length (now s)) × (n ≤ length (now out)) ⌝ }
+    ensures { λ _. ⌜ now (out .exit) ≡ daysFrom (now (s .entry)) 0 n ++ drop n (now (out .entry)) ⌝ }
+{
+    let mut i: usize = 0;
+    while i < n {
+        out[i] = day_at(s, i);
+        i += 1;
+    }
+}
+
+// The note in the bytes.
+fn note_in_bytes(s: &[u8]) -> NoteAnswer
+    ensures { λ r. ⌜ noteOutcome r ≡ noteInBytes (now (s .entry)) ⌝ }
+{
+    if !is_whole(s) {
+        return NoteAnswer::Refused(paper::MALFORMED_RECORD);
+    }
+    let n = table_count(s);
+    let raw = packed_note::read_raw(s);
+    packed_note::note_in(raw, true, is_table_in(s, n))
+}
+
+// The note in the bytes, and its holidays into the lent places.
+pub fn read_note(s: &[u8], table: &mut [u32]) -> PackedAnswer
+    ensures { λ r. ⌜ ReadPromise (now (s .entry)) (now (table .entry)) (now (table .exit)) r ⌝ }
+{
+    match note_in_bytes(s) {
+        NoteAnswer::Note(note) => {
+            let n = table_count(s);
+            if table.len() < n {
+                return PackedAnswer::Refused(paper::TOO_FEW_PLACES);
+            }
+            read_days(s, n, table);
+            PackedAnswer::Packed(PackedNote { note, holidays: n })
+        }
+        NoteAnswer::Refused(k) => PackedAnswer::Refused(k),
+    }
+}

@@ -1,0 +1,7 @@
+pub mod Found
+pub mod Digits
+pub mod Codes
+pub mod Notes
+pub mod Written
+pub mod Read
+pub mod RoundTrips

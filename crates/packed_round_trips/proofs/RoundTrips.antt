@@ -1,0 +1,34 @@
+-- Written and read: each gives back what the other took.
+-- Assumes nothing.
+use Prim.Native.Nat.{ℕ}
+use mathlib.Core.Path.{_≡_, sym, ap, subst, _∙_}
+use mathlib.Core.List.{List}
+use Rattle.paper.specs.Outcome.{given}
+use Rattle.paper.proofs.Outcomes.{given-injective}
+use Rattle.bit_fields.specs.Bits.{AreBytes}
+use Rattle.bond.specs.declared.Note.{Note}
+use Rattle.packed.specs.Tables.{Unpacked, unpacked}
+use Rattle.packed_write.specs.Fields.{rawWith}
+use Rattle.packed_write.specs.Writing.{packedNote}
+use Rattle.packed_round_trips.specs.RoundTrips.{InMachine, RoundTrips}
+use Rattle.packed_round_trips.proofs.Written.{was-packed, raw-bytes, reads-back}
+use Rattle.packed_round_trips.proofs.Read.{writes-back}
+
+written-bytes : (n : Note) (table s : List ℕ) → packedNote n table ≡ given s → AreBytes s
+written-bytes n table s e = subst AreBytes (was-packed n table s e .bytes) (raw-bytes (rawWith n) table)
+
+written-reads : (n : Note) (table s : List ℕ) → InMachine n → packedNote n table ≡ given s → unpacked s ≡ given (record { note = n; days = table })
+written-reads n table s m e = let p = was-packed n table s e in ap unpacked (sym (p .bytes)) ∙ reads-back n table (p .note) (p .table-taken) m
+
+pub round-trips : RoundTrips
+round-trips = record {
+  written-bytes = written-bytes;
+  written-reads = written-reads;
+  read-writes = writes-back;
+  one-note = one;
+}
+  where
+    one : (n m : Note) (table days s : List ℕ) → InMachine n → InMachine m → packedNote n table ≡ given s → packedNote m days ≡ given s → (n ≡ m) × (table ≡ days)
+    one n m table days s h k e f =
+        let same : _≡_ {A = Unpacked} (record { note = n; days = table }) (record { note = m; days = days }) = given-injective (sym (written-reads n table s h e) ∙ written-reads m days s k f) in
+        (ap (λ (p : Unpacked). p .note) same, ap (λ (p : Unpacked). p .days) same)

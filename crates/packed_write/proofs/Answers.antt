@@ -1,0 +1,73 @@
+-- The answers of writing a note: 18 for its period, the note's refusals, or what is written.
+-- Assumes nothing.
+use Prim.Native.Nat.{ℕ}
+use mathlib.Core.Path.{_≡_, refl, sym, ap, _∙_}
+use mathlib.Core.Bool.{Bool, true, false}
+use mathlib.Core.List.{List}
+use borrow.Author.Tests.{lt-leb, le-leb, ltb-true, ltb-false}
+use lib.IntN.{ℤ, pos, negsuc, natAbs}
+use lib.Signed.{leZ, ltZ}
+use lib.Ieee.{binary64, toBits}
+use Rattle.paper.specs.Outcome.{given, refused}
+use Rattle.text.specs.Writing.{Written, lengthOutcome}
+use Rattle.text.specs.declared.LengthAnswer.{LengthAnswer}
+use Rattle.text.specs.declared.LengthAnswer.the-variants as length-answer
+use Rattle.holidays.specs.Table.{isTable}
+use Rattle.day_count_conv.specs.Conventions.{codeOf}
+use Rattle.bond.specs.Notes.{noteChecks}
+use Rattle.bond.specs.declared.Note.{Note}
+use Rattle.bond.proofs.Ends.{passed}
+use Rattle.packed_note.specs.declared.Terms.{Terms}
+use Rattle.packed_note.specs.declared.Letters.{Letters}
+use Rattle.packed_note.specs.declared.Raw.{Raw}
+use Rattle.packed_write.specs.Codes.{unitCode, ruleCode, digitsPlaces}
+use Rattle.packed_write.specs.Fields.{termsWith, lettersWith, rawWith, recordBytes}
+use Rattle.packed_write.specs.Writing.{packedNote, Packable, WritePromise}
+
+-- the terms, each from its code
+pub terms-are : (n : Note) (u m c r : ℕ) → u ≡ unitCode (n .period .unit) → m ≡ natAbs (n .period .num) → c ≡ codeOf (n .«day_count_convention») → r ≡ ruleCode (n .«business_day_rule») → _≡_ {A = Terms} (record { unit = u; number = m; convention = c; adjustment = r }) (termsWith n)
+terms-are n u m c r e f g h = rw (e, f, g, h)
+
+-- and the numbers, each from its part
+pub raw-is : (n : Note) (d : ℕ) (t : Terms) (l : Letters) → d ≡ digitsPlaces (n .number .count) 10 (n .number .digits) → t ≡ termsWith n → l ≡ lettersWith (n .currency) → _≡_ {A = Raw} (record {
+  count = n .number .count;
+  digits = d;
+  issue = n .«issue_date»;
+  maturity = n .maturity;
+  coupon = n .«coupon_date»;
+  terms = t;
+  denomination = n .denomination;
+  rate = toBits binary64 (n .rate);
+  letters = l;
+  spare = 0;
+}) (rawWith n)
+raw-is n d t l e f g = rw (e, f, g)
+
+-- the machine's test of the period
+pub above-twelve : (z : ℤ) → ltZ (pos 4095) z ≡ true → leZ z (pos 4095) ≡ false
+above-twelve (pos n) h = lt-leb n 4095 (ltb-true 4095 n h)
+above-twelve (negsuc n) h = sym h
+
+pub within-twelve : (z : ℤ) → ltZ (pos 4095) z ≡ false → leZ z (pos 4095) ≡ true
+within-twelve (pos n) h = le-leb n 4095 (ltb-false 4095 n h)
+within-twelve (negsuc n) h = refl
+
+module _ (n : Note) (table d : List ℕ) where
+  pub period-refused : leZ (n .period .num) (pos 4095) ≡ false → WritePromise n table d d (length-answer.Refused 18)
+  unfolding packedNote
+  period-refused h = record { answer = rw (h); bytes = rw (h) }
+
+  module _ (h : leZ (n .period .num) (pos 4095) ≡ true) where
+    pub note-refused : (t : Bool) (k : ℕ) → t ≡ isTable table → noteChecks true t n ≡ refused k → WritePromise n table d d (length-answer.Refused k)
+    unfolding packedNote
+    note-refused t k e f = record { answer = rw (h, ← e, f); bytes = rw (h, ← e, f) }
+
+    -- the checks give the note that was judged
+    pub note-packable : (t : Bool) (m : Note) → t ≡ isTable table → noteChecks true t n ≡ given m → (Packable n) × (isTable table ≡ true)
+    note-packable t m e f =
+        let p = passed true t n m f in
+        ((h, ap (λ (b : Bool). noteChecks true b n) (sym (p .table-taken)) ∙ f ∙ ap given (sym (p .itself))), sym e ∙ p .table-taken)
+
+    pub note-written : (e : List ℕ) (r : LengthAnswer) → (Packable n) × (isTable table ≡ true) → Written d e (recordBytes n table) (lengthOutcome r) → WritePromise n table d e r
+    unfolding packedNote
+    note-written e r p w = record { answer = rw (h, p .1, p .0 .1) (w .0); bytes = rw (h, p .1, p .0 .1) (w .1) }

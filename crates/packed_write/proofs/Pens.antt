@@ -1,0 +1,142 @@
+-- Bits put one after the other: two in turn, fields that become one, and the whole.
+-- Assumes nothing.
+use Prim.Native.Nat.{ℕ, _+_, _-_, _*_, _/_, _%_, _≤_, _<_}
+use mathlib.Core.Path.{_≡_, refl, sym, ap, _∙_}
+use mathlib.Core.List.{List, [], _∷_, _++_, append-assoc, append-nil}
+use native.Mathlib.Nat.{zero-add, add-zero}
+use native.Mathlib.Omega.{arith}
+use lib.ListN.{length, take, drop, getD, length-append}
+use lib.Seq.{drop-drop, take-length}
+use Rattle.bit_fields.specs.Bits.{fieldBits, bitsOf, bytesOf}
+use Rattle.bit_fields.specs.Pens.{Held, putSoFar, Drew}
+use Rattle.bit_fields.specs.declared.Pen.{Pen}
+use Rattle.bit_fields.proofs.Bits.{length-field, field-split, field-cut, length-bytes}
+use Rattle.bit_fields.proofs.Pens.{Inked, inked-all}
+use Rattle.packed_note.specs.declared.Raw.{Raw}
+use Rattle.text.specs.Writing.{put, Wrote}
+use Rattle.packed_write.specs.Fields.{Field, inBits, fieldsBits, rawFields, dayFields, tableFields, zerosBehind, wholeBytes, rawBytes}
+use Rattle.packed_write.specs.Pens.{Penned}
+use Rattle.packed_write.proofs.Fields.{one-field, fields-append, days-more, length-record, padded-length}
+
+-- one field
+pub penned-one : {d e : List ℕ} {p r : Pen} {w x : ℕ} → Drew d e p r w x → Penned d e p r w (inBits w x ∷ [])
+penned-one {w = w} {x} n = record {
+  held = n .held;
+  drawn = rw (one-field (inBits w x)) (n .drawn);
+  bytes = n .bytes;
+  past = n .past;
+  same-length = n .same-length;
+  moved = n .moved;
+  counted = rw (one-field (inBits w x)) (length-field w x);
+}
+
+-- nothing
+pub penned-none : (d : List ℕ) (p : Pen) → Held p → Penned d d p p 0 []
+unfolding fieldsBits
+penned-none d p h = record {
+  held = h;
+  drawn = sym (append-nil (putSoFar d p));
+  bytes = λ a. a;
+  past = refl;
+  same-length = refl;
+  moved = sym (add-zero (8 * p .place + p .count));
+  counted = refl;
+}
+
+-- one after the other
+pub penned-then : {d e f : List ℕ} {p q r : Pen} {m n : ℕ} {fs gs : List Field} → Penned d e p q m fs → Penned e f q r n gs → Penned d f p r (m + n) (fs ++ gs)
+penned-then {d} {e} {f} {p} {q} {r} {m} {n} {fs} {gs} a b = record {
+  held = b .held;
+  drawn = b .drawn ∙ ap (λ (x : List ℕ). x ++ fieldsBits gs) (a .drawn) ∙ append-assoc (putSoFar d p) (fieldsBits fs) (fieldsBits gs) ∙ ap (λ (x : List ℕ). putSoFar d p ++ x) (sym (fields-append fs gs));
+  bytes = λ x. b .bytes (a .bytes x);
+  past = b .past ∙ later;
+  same-length = b .same-length ∙ a .same-length;
+  moved = omega (arith, a .moved, b .moved);
+  counted = ap length (fields-append fs gs) ∙ omega (arith, length-append (fieldsBits fs) (fieldsBits gs), a .counted, b .counted);
+}
+  where
+    ahead : q .place + (r .place - q .place) ≡ r .place
+    ahead = omega (arith, b .moved, a .held .0, b .held .0)
+
+    later : drop (r .place) e ≡ drop (r .place) d
+    later =
+        ap (λ (k : ℕ). drop k e) (sym ahead)
+        ∙ sym (drop-drop (r .place - q .place) (q .place) e)
+        ∙ ap (drop (r .place - q .place)) (a .past)
+        ∙ drop-drop (r .place - q .place) (q .place) d
+        ∙ ap (λ (k : ℕ). drop k d) ahead
+
+-- the same bits as other fields
+pub penned-is : {d e : List ℕ} {p r : Pen} {m n : ℕ} {fs gs : List Field} → Penned d e p r m fs → m ≡ n → fieldsBits fs ≡ fieldsBits gs → Penned d e p r n gs
+penned-is {d} {e} {p} {r} {m} {n} {fs} {gs} a i j = record {
+  held = a .held;
+  drawn = a .drawn ∙ ap (λ (x : List ℕ). putSoFar d p ++ x) j;
+  bytes = a .bytes;
+  past = a .past;
+  same-length = a .same-length;
+  moved = rw (← i) (a .moved);
+  counted = rw (← j, ← i) (a .counted);
+}
+
+-- a field in two halves
+halves : (x : ℕ) → fieldsBits (inBits 32 (x / 4294967296) ∷ inBits 32 (x % 4294967296) ∷ []) ≡ fieldsBits (inBits 64 x ∷ [])
+unfolding fieldsBits
+halves x =
+    ap (λ (s : List ℕ). fieldBits 32 (x / 4294967296) ++ (s ++ [])) (field-cut 32 x)
+    ∙ sym (append-assoc (fieldBits 32 (x / 4294967296)) (fieldBits 32 x) [])
+    ∙ ap (λ (s : List ℕ). s ++ []) (sym (field-split 32 32 x))
+
+pub penned-halves : {d e f : List ℕ} {p q r : Pen} {x : ℕ} → Drew d e p q 32 (x / 4294967296) → Drew e f q r 32 (x % 4294967296) → Penned d f p r 64 (inBits 64 x ∷ [])
+penned-halves {x = x} a b = penned-is (penned-then (penned-one a) (penned-one b)) refl (halves x)
+
+-- a day behind those before it
+pub penned-day : {d e f : List ℕ} {p q r : Pen} (t : List ℕ) (i x : ℕ) → i < length t → x ≡ getD t i 0 → Penned d e p q (22 * i) (dayFields (take i t)) → Drew e f q r 22 x → Penned d f p r (22 * (i + 1)) (dayFields (take (i + 1) t))
+penned-day t i x h g a b =
+    penned-is (penned-then a (penned-one b)) (omega arith)
+    (fields-append (dayFields (take i t)) (inBits 22 x ∷ []) ∙ ap (λ (s : List ℕ). fieldsBits (dayFields (take i t)) ++ s) (one-field (inBits 22 x)) ∙ sym (days-more t i x h g))
+
+pub all-days : {d e : List ℕ} {p r : Pen} (t : List ℕ) (i : ℕ) → i ≡ length t → Penned d e p r (22 * i) (dayFields (take i t)) → Penned d e p r (22 * length t) (dayFields t)
+all-days t i h a = penned-is a (ap (λ (k : ℕ). 22 * k) h) (ap (λ (s : List ℕ). fieldsBits (dayFields s)) (ap (λ (k : ℕ). take k t) h ∙ take-length t))
+
+-- ---- the whole
+
+abbrev start : Pen
+start = record { place = 0; count = 0; bits = 0 }
+
+start-none : (d : List ℕ) → putSoFar d start ≡ []
+unfolding bitsOf fieldBits
+start-none d = refl
+
+pub penned-inked : {d e : List ℕ} {r : Pen} {n : ℕ} {fs : List Field} → Penned d e start r n fs → Inked d e r (fieldsBits fs)
+penned-inked {d} {fs = fs} a = record {
+  held = a .held;
+  drawn = a .drawn ∙ ap (λ (s : List ℕ). s ++ fieldsBits fs) (start-none d);
+  bytes = a .bytes (omega arith);
+  past = a .past;
+  same-length = a .same-length;
+  placed = omega (arith, a .moved, a .counted);
+}
+
+-- the note, the table and zero bits to the byte are the record's bytes
+module _ {d d1 d2 e : List ℕ} {p q r : Pen} (raw : Raw) (t : List ℕ) (zeros : ℕ) (a : Penned d d1 start p 240 (rawFields raw)) (b : Penned d1 d2 p q (16 + 22 * length t) (tableFields t)) (c : Drew d2 e q r zeros 0) (z : zeros ≡ (8 - q .count) % 8) (room : (256 + 22 * length t + 7) / 8 ≤ length d) where
+  noted : Penned d d2 start q (240 + (16 + 22 * length t)) (rawFields raw ++ tableFields t)
+  noted = penned-then a b
+
+  zeros-are : zeros ≡ zerosBehind (length (fieldsBits (rawFields raw ++ tableFields t)))
+  zeros-are = omega (arith, z, noted .moved, noted .held .0, length-record raw t)
+
+  padded : fieldsBits ((rawFields raw ++ tableFields t) ++ (inBits zeros 0 ∷ [])) ≡ fieldsBits (rawFields raw ++ tableFields t) ++ fieldBits (zerosBehind (length (fieldsBits (rawFields raw ++ tableFields t)))) 0
+  padded =
+      fields-append (rawFields raw ++ tableFields t) (inBits zeros 0 ∷ [])
+      ∙ ap (λ (s : List ℕ). fieldsBits (rawFields raw ++ tableFields t) ++ s) (one-field (inBits zeros 0) ∙ ap (λ (w : ℕ). fieldBits w 0) zeros-are)
+
+  all-put : Inked d e r (fieldsBits ((rawFields raw ++ tableFields t) ++ (inBits zeros 0 ∷ [])))
+  all-put = penned-inked (penned-then noted (penned-one c))
+
+  pub record-wrote : Wrote d e 0 (rawBytes raw t) (r .place)
+  unfolding rawBytes wholeBytes
+  record-wrote =
+      let k : ℕ = (length (fieldsBits (rawFields raw ++ tableFields t)) + 7) / 8 in
+      let long : length (fieldsBits ((rawFields raw ++ tableFields t) ++ (inBits zeros 0 ∷ []))) ≡ 8 * k = ap length padded ∙ padded-length (fieldsBits (rawFields raw ++ tableFields t)) in
+      let done = inked-all d e r _ k all-put long (omega (arith, length-record raw t)) in
+      (done .0 ∙ ap (λ (s : List ℕ). put d 0 (bytesOf k s)) padded, done .1 ∙ sym (zero-add (length (bytesOf k (fieldsBits (rawFields raw ++ tableFields t) ++ fieldBits (zerosBehind (length (fieldsBits (rawFields raw ++ tableFields t)))) 0))) ∙ length-bytes k (fieldsBits (rawFields raw ++ tableFields t) ++ fieldBits (zerosBehind (length (fieldsBits (rawFields raw ++ tableFields t)))) 0)))

@@ -1,0 +1,26 @@
+-- `packed_write::put_raw` meets its contract: its parts in turn.
+-- Assumes nothing.
+use Rattle.packed_write.proofs.Pens.{penned-then}
+use borrow.Author.Needs.{needs}
+use Rattle.packed_write.proofs.put_raw.Statement.{statement}
+use Rattle.packed_write.proofs.put_raw.Tie as tie
+
+put-head-requires : tie.Need-put-head-requires
+put-head-requires c κs = search needs
+
+put-middle-requires : tie.Need-put-middle-requires
+put-middle-requires c κs = search needs
+
+put-tail-requires : tie.Need-put-tail-requires
+put-tail-requires c κs = search needs
+
+same-length : tie.Need-same-length
+same-length c = search needs
+
+returns : tie.Need-returns
+returns c = penned-then (c .before .before .before .before .before .before .before .before .before .before .put-head .ensures) (penned-then (c .before .before .before .before .before .before .put-middle .ensures) (c .before .before .put-tail .ensures))
+
+pub put-raw-spec : {M : Type 1} → statement M
+put-raw-spec =
+    tie.close
+    (tie.spec put-head-requires put-middle-requires put-tail-requires same-length returns)

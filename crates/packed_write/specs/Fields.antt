@@ -1,0 +1,111 @@
+-- A note and its table as fields of bits, in the paper's order and widths, and the bytes that they are.
+-- Assumes nothing.
+use Prim.Native.Nat.{ℕ, _+_, _-_, _/_, _%_}
+use mathlib.Core.List.{List, [], _∷_, _++_}
+use lib.ListN.{length}
+use lib.IntN.{natAbs}
+use lib.Ieee.{binary64, toBits}
+use Rattle.bit_fields.specs.Bits.{fieldBits, bytesOf}
+use Rattle.calendar.specs.declared.Date.{Date}
+use Rattle.coupon_date.specs.declared.CouponDate.{CouponDate}
+use Rattle.cash_amount.specs.declared.Currency.{Currency}
+use Rattle.day_count_conv.specs.Conventions.{codeOf}
+use Rattle.bond.specs.declared.Note.{Note}
+use Rattle.packed_note.specs.declared.Terms.{Terms}
+use Rattle.packed_note.specs.declared.Letters.{Letters}
+use Rattle.packed_note.specs.declared.Raw.{Raw}
+use Rattle.packed_write.specs.Codes.{unitCode, ruleCode, digitsPlaces}
+
+-- a number in so many bits
+pub record Field : Type 0 where
+  pub width : ℕ
+  pub number : ℕ
+
+abbrev pub inBits : ℕ → ℕ → Field
+inBits w n = record { width = w; number = n }
+
+-- the bits of fields one after the other, most significant first
+unfoldable pub fieldsBits : List Field → List ℕ
+fieldsBits [] = []
+fieldsBits (f ∷ fs) = fieldBits (f .width) (f .number) ++ fieldsBits fs
+
+-- digit count 4; ten digits of 4
+abbrev pub numberFields : Raw → List Field
+numberFields r = inBits 4 (r .count) ∷ inBits 40 (r .digits) ∷ []
+
+-- year 14, month 4, day 5
+abbrev pub dateFields : Date → List Field
+dateFields t = inBits 14 (t .year) ∷ inBits 4 (t .month) ∷ inBits 5 (t .day) ∷ []
+
+-- coupon day 5, month 4
+abbrev pub couponFields : CouponDate → List Field
+couponFields c = inBits 5 (c .day) ∷ inBits 4 (c .month) ∷ []
+
+-- unit 3; number 12; day count 3; adjustment 2
+abbrev pub rulesFields : Terms → List Field
+rulesFields t = inBits 3 (t .convention) ∷ inBits 2 (t .adjustment) ∷ []
+
+abbrev pub termsFields : Terms → List Field
+termsFields t = inBits 3 (t .unit) ∷ inBits 12 (t .number) ∷ rulesFields t
+
+-- three letters of 5
+abbrev pub lettersFields : Letters → List Field
+lettersFields l = inBits 5 (l .first) ∷ inBits 5 (l .second) ∷ inBits 5 (l .third) ∷ []
+
+-- the number and the dates; then coupon date, terms and denomination 32; then rate 64, letters and 10 spare bits
+abbrev pub headFields : Raw → List Field
+headFields r = numberFields r ++ (dateFields (r .issue) ++ dateFields (r .maturity))
+
+abbrev pub middleFields : Raw → List Field
+middleFields r = couponFields (r .coupon) ++ (termsFields (r .terms) ++ (inBits 32 (r .denomination) ∷ []))
+
+abbrev pub tailFields : Raw → List Field
+tailFields r = (inBits 64 (r .rate) ∷ []) ++ (lettersFields (r .letters) ++ (inBits 10 (r .spare) ∷ []))
+
+abbrev pub rawFields : Raw → List Field
+rawFields r = headFields r ++ (middleFields r ++ tailFields r)
+
+-- the table follows: count 16, days of 22 each
+unfoldable pub dayFields : List ℕ → List Field
+dayFields [] = []
+dayFields (d ∷ ds) = inBits 22 d ∷ dayFields ds
+
+abbrev pub tableFields : List ℕ → List Field
+tableFields table = inBits 16 (length table) ∷ dayFields table
+
+-- the terms a note is packed with, the period's number unsigned
+abbrev pub termsWith : Note → Terms
+termsWith n = record { unit = unitCode (n .period .unit); number = natAbs (n .period .num); convention = codeOf (n .«day_count_convention»); adjustment = ruleCode (n .«business_day_rule») }
+
+-- a letter is its place in the alphabet: A = 1
+abbrev pub lettersWith : Currency → Letters
+lettersWith c = record { first = c .first - 64; second = c .second - 64; third = c .third - 64 }
+
+-- the numbers a note is packed as: its number passes digit by digit, and the spare bits are zero
+abbrev pub rawWith : Note → Raw
+rawWith n = record {
+  count = n .number .count;
+  digits = digitsPlaces (n .number .count) 10 (n .number .digits);
+  issue = n .«issue_date»;
+  maturity = n .maturity;
+  coupon = n .«coupon_date»;
+  terms = termsWith n;
+  denomination = n .denomination;
+  rate = toBits binary64 (n .rate);
+  letters = lettersWith (n .currency);
+  spare = 0;
+}
+
+-- the bytes of bits, zero bits to the byte
+abbrev pub zerosBehind : ℕ → ℕ
+zerosBehind n = (8 - n % 8) % 8
+
+unfoldable pub wholeBytes : List ℕ → List ℕ
+wholeBytes s = bytesOf ((length s + 7) / 8) (s ++ fieldBits (zerosBehind (length s)) 0)
+
+-- the bytes of a note and its table
+unfoldable pub rawBytes : Raw → List ℕ → List ℕ
+rawBytes r table = wholeBytes (fieldsBits (rawFields r ++ tableFields table))
+
+abbrev pub recordBytes : Note → List ℕ → List ℕ
+recordBytes n table = rawBytes (rawWith n) table

@@ -1,0 +1,4 @@
+pub mod Codes
+pub mod Fields
+pub mod Pens
+pub mod Writing

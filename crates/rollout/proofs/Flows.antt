@@ -193,7 +193,7 @@ Every P (x ∷ l) = P x × Every P l
 abbrev pub OfNote : Note → CashFlow → Type 0
 OfNote n x = (isDate (x .date) ≡ true) × (x .currency ≡ n .currency)
 
-followed-given : (flow : Outcome CashFlow) (others : Outcome (List CashFlow)) (l : List CashFlow) → followed flow others ≡ given l → (x : CashFlow) × (m : List CashFlow) × (flow ≡ given x) × (others ≡ given m) × (x ∷ m ≡ l)
+pub followed-given : (flow : Outcome CashFlow) (others : Outcome (List CashFlow)) (l : List CashFlow) → followed flow others ≡ given l → (x : CashFlow) × (m : List CashFlow) × (flow ≡ given x) × (others ≡ given m) × (x ∷ m ≡ l)
 followed-given flow others l e =
     let f = then-given flow (λ x. andThen others (λ m. given (x ∷ m))) l e in
     let g = then-given others (λ m. given (f .0 ∷ m)) l (f .2) in

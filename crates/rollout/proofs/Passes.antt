@@ -140,15 +140,15 @@ module _ (n : Note) (position : Float) (table : List ℕ) where
   unfolding cashFlows
   all-flows h = rw h
 
-  fits : (o : Outcome (List CashFlow)) (m places : ℕ) → counted o ≡ given m → m ≤ places → fitting places o ≡ o
+  pub fits : (o : Outcome (List CashFlow)) (m places : ℕ) → counted o ≡ given m → m ≤ places → fitting places o ≡ o
   fits (given l) m places c h = rw (le-leb (length l) places (omega (arith, given-injective c)))
   fits (refused j) m places c h = refl
 
-  short : (o : Outcome (List CashFlow)) (m places : ℕ) → counted o ≡ given m → places < m → fitting places o ≡ refused 16
+  pub short : (o : Outcome (List CashFlow)) (m places : ℕ) → counted o ≡ given m → places < m → fitting places o ≡ refused 16
   short (given l) m places c h = rw (lt-leb (length l) places (omega (arith, given-injective c)))
   short (refused j) m places c h = absurd (given-not-refused (sym c))
 
-  stopped : (o : Outcome (List CashFlow)) (j places : ℕ) → counted o ≡ refused j → fitting places o ≡ refused j
+  pub stopped : (o : Outcome (List CashFlow)) (j places : ℕ) → counted o ≡ refused j → fitting places o ≡ refused j
   stopped (given l) j places c = absurd (given-not-refused c)
   stopped (refused k) j places c = let q : k ≡ j = cc in ap refused q
 

@@ -57,7 +57,7 @@ fn written(answer: FlowsAnswer) -> usize
     }
 }
 
-// Before the first flow: it has none yet, and its own is never written.
+// Before the first flow; the record that stands here is never written.
 fn begin(note: Note) -> Paid
     ensures { λ r. ⌜ r .next ≡ First ⌝ }
 {

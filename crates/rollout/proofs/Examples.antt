@@ -30,16 +30,16 @@ use Rattle.bond.proofs.Examples as notes
 use Rattle.rollout.specs.Rollout.{paid, couponFlow, flowsAfter, noteFlows, cashFlows, fitted, dayOf, amountOf}
 
 -- one, twenty and a thousand
-abbrev one : Float
+abbrev pub one : Float
 one = fin false 1 (pos 0)
 
-abbrev twenty : Float
+abbrev pub twenty : Float
 twenty = fin false 5 (pos 2)
 
-abbrev thousand : Float
+abbrev pub thousand : Float
 thousand = fin false 125 (pos 3)
 
-abbrev flow : Date → Float → CashFlow
+abbrev pub flow : Date → Float → CashFlow
 flow t x = record { date = t; currency = euro; amount = x }
 
 -- 2021-07-15 20, 2022-01-17 20, 2022-01-17 1000: the 15th of January 2022 is a Saturday
@@ -60,7 +60,7 @@ unfolding dayNumber before yearLength monthLength lengthIn leap
 room = record { answer = rw the-listing; days = rw the-listing; amounts = rw the-listing; too-few-days = rw the-listing; too-few-amounts = rw the-listing }
 
 -- a refusal beyond the room comes before 16: 10D from 9999-12-15 leaves the calendar after one more coupon, and no place is lent
-abbrev late : Note
+abbrev pub late : Note
 late =
     record {
       number = notes.listed .number;

@@ -56,9 +56,9 @@ adjusted-dated rule.Preceding t u table d e = date-is u (adjusted-gives rule.Pre
 adjusted-dated rule.Modified t u table d e = date-is u (adjusted-gives rule.Modified t table u d (λ q. let z : _≡_ {A = ℕ} 0 1 = cc in omega arith) e .dated)
 
 module _ (n : Note) (table : List ℕ) (t : Date) (x : Float) (next : Due) where
-  pub pay-paid : (u : Date) (day : ℕ) → adjusted (n .«business_day_rule») t table ≡ given u → day ≡ dayNumber u → Pay day x next ≡ stepOf (paid n table t x) next
+  pub pay-paid : (u : Date) (day : ℕ) → adjusted (n .«business_day_rule») t table ≡ given u → day ≡ dayNumber u → Pay day (record { date = u; currency = n .currency; amount = x }) next ≡ stepOf (paid n table t x) next
   unfolding paid
-  pay-paid u day e d = ap (λ (k : ℕ). Pay k x next) d ∙ sym (ap (λ (o : Outcome Date). stepOf (andThen o (λ v. given (record { date = v; currency = n .currency; amount = x }))) next) e)
+  pay-paid u day e d = ap (λ (k : ℕ). Pay k (record { date = u; currency = n .currency; amount = x }) next) d ∙ sym (ap (λ (o : Outcome Date). stepOf (andThen o (λ v. given (record { date = v; currency = n .currency; amount = x }))) next) e)
 
   pub pay-stop : (k : ℕ) → adjusted (n .«business_day_rule») t table ≡ refused k → Stop k ≡ stepOf (paid n table t x) next
   unfolding paid
@@ -142,7 +142,7 @@ module _ (n : Note) (position : Float) (table : List ℕ) where
   -- ---- a turn by what is due
 
   turned-by : (due next : Due) (o : Outcome CashFlow) (r : Step) → flowsDue n position table due ≡ followed o (flowsDue n position table next) → Dated next → most next < most due → r ≡ stepOf o next → Turned n position table due r
-  turned-by due next (given x) r e d f q = subst (Turned n position table due) (sym q) (record { flow = x; left = e; day-is = refl; amount-is = refl; dated = d; fewer = f })
+  turned-by due next (given x) r e d f q = subst (Turned n position table due) (sym q) (record { left = e; dated = d; fewer = f }, refl)
   turned-by due next (refused k) r e d f q = subst (Turned n position table due) (sym q) e
 
   module _ (a : Accepted n) where
@@ -193,7 +193,7 @@ Every P (x ∷ l) = P x × Every P l
 abbrev pub OfNote : Note → CashFlow → Type 0
 OfNote n x = (isDate (x .date) ≡ true) × (x .currency ≡ n .currency)
 
-followed-given : (flow : Outcome CashFlow) (others : Outcome (List CashFlow)) (l : List CashFlow) → followed flow others ≡ given l → (x : CashFlow) × (m : List CashFlow) × (flow ≡ given x) × (others ≡ given m) × (x ∷ m ≡ l)
+pub followed-given : (flow : Outcome CashFlow) (others : Outcome (List CashFlow)) (l : List CashFlow) → followed flow others ≡ given l → (x : CashFlow) × (m : List CashFlow) × (flow ≡ given x) × (others ≡ given m) × (x ∷ m ≡ l)
 followed-given flow others l e =
     let f = then-given flow (λ x. andThen others (λ m. given (x ∷ m))) l e in
     let g = then-given others (λ m. given (f .0 ∷ m)) l (f .2) in

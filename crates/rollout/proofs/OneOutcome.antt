@@ -65,12 +65,14 @@ module _ (n : Note) (position : Float) (table : List ℕ) where
       then-numbered (firstCouponEnd n) (λ end. followed (couponFlow n position table (n .«issue_date») end end) (flowsAfter 3652059 n position table end)) (first-end-numbered n)
       (λ end. followed-numbered (couponFlow n position table (n .«issue_date») end end) (flowsAfter 3652059 n position table end) (coupon-numbered (n .«issue_date») end end) (after-numbered 3652059 end))
 
-fitting-numbered : (places : ℕ) (o : Outcome (List CashFlow)) → Numbered o → Numbered (fitting places o)
+pub fitting-numbered : (places : ℕ) (o : Outcome (List CashFlow)) → Numbered o → Numbered (fitting places o)
 fitting-numbered places (given l) h = unless-numbered (leb (length l) places) 16 (given l) (omega arith) (omega arith)
 fitting-numbered places (refused k) h = h
 
-pub rollout-numbered : (n : Note) (position : Float) (table days : List ℕ) (amounts : List Float) → Numbered (fitted n position table days amounts)
+pub cash-flows-numbered : (n : Note) (position : Float) (table : List ℕ) → Numbered (cashFlows n position table)
 unfolding cashFlows
-rollout-numbered n position table days amounts =
-    fitting-numbered (min (length days) (length amounts)) (cashFlows n position table)
-    (then-numbered (noteChecks (isPosition position) (isTable table) n) (λ m. noteFlows m position table) (checks-numbered (isPosition position) (isTable table) n) (λ m. flows-numbered m position table))
+cash-flows-numbered n position table =
+    then-numbered (noteChecks (isPosition position) (isTable table) n) (λ m. noteFlows m position table) (checks-numbered (isPosition position) (isTable table) n) (λ m. flows-numbered m position table)
+
+pub rollout-numbered : (n : Note) (position : Float) (table days : List ℕ) (amounts : List Float) → Numbered (fitted n position table days amounts)
+rollout-numbered n position table days amounts = fitting-numbered (min (length days) (length amounts)) (cashFlows n position table) (cash-flows-numbered n position table)

@@ -73,11 +73,11 @@ module _ (n : Note) (position : Float) (table : List ℕ) where
   counting-none = record { dated = omega arith; few = omega arith; whole = tally-none (noteFlows n position table) }
 
   module _ {k : ℕ} {due : Due} (c : Counting k due) where
-    pub counting-more : {day : ℕ} {x : Float} {next : Due} → Pays n position table due day x next → Counting (k + 1) next
-    counting-more {next = next} p = record {
+    pub counting-more : {x : CashFlow} {next : Due} → Pays n position table due x next → Counting (k + 1) next
+    counting-more {x} {next} p = record {
       dated = p .dated;
       few = omega (arith, c .few, p .fewer);
-      whole = sym (tally-more k (p .flow) (flowsDue n position table next)) ∙ sym (ap (tally k) (p .left)) ∙ c .whole;
+      whole = sym (tally-more k x (flowsDue n position table next)) ∙ sym (ap (tally k) (p .left)) ∙ c .whole;
     }
 
     pub counting-stop : {m : ℕ} → flowsDue n position table due ≡ refused m → refused m ≡ counted (noteFlows n position table)
@@ -112,17 +112,17 @@ module _ (n : Note) (position : Float) (table : List ℕ) where
       must-pay (Stop j) t h e = given-not-refused (sym (w .whole) ∙ ap (tally k) t)
       must-pay End t h e = let z : m ≡ k + 0 = given-injective (sym (w .whole) ∙ ap (tally k) t) in omega arith
 
-      pub writing-more : {day : ℕ} {x : Float} {next : Due} → Pays n position table due day x next → k < m → k < length days → k < length amounts → Writing (set days k day) (set amounts k x) (k + 1) next
-      writing-more {day} {x} {next} p h ld la =
+      pub writing-more : {day : ℕ} {x : CashFlow} {next : Due} → Pays n position table due x next × (day ≡ dayOf x) → k < m → k < length days → k < length amounts → Writing (set days k day) (set amounts k (amountOf x)) (k + 1) next
+      writing-more {day} {x} {next} (p, d) h ld la =
           let o = flowsDue n position table next in
-          let t : tally (k + 1) o ≡ given m = sym (tally-more k (p .flow) o) ∙ sym (ap (tally k) (p .left)) ∙ w .whole in
-          let f : flowsOf (flowsDue n position table due) ≡ p .flow ∷ flowsOf o = ap flowsOf (p .left) ∙ flows-more (k + 1) m (p .flow) o t in
+          let t : tally (k + 1) o ≡ given m = sym (tally-more k x o) ∙ sym (ap (tally k) (p .left)) ∙ w .whole in
+          let f : flowsOf (flowsDue n position table due) ≡ x ∷ flowsOf o = ap flowsOf (p .left) ∙ flows-more (k + 1) m x o t in
           record {
             dated = p .dated;
             within = omega arith;
             whole = t;
-            days-at = rw (p .day-is) (filled-more _ _ k (dayOf (p .flow)) _ days ld (rw (ap (map dayOf) f) at (w .days-at)));
-            amounts-at = rw (p .amount-is) (filled-more _ _ k (amountOf (p .flow)) _ amounts la (rw (ap (map amountOf) f) at (w .amounts-at)));
+            days-at = rw d (filled-more _ _ k (dayOf x) _ days ld (rw (ap (map dayOf) f) at (w .days-at)));
+            amounts-at = filled-more _ _ k (amountOf x) _ amounts la (rw (ap (map amountOf) f) at (w .amounts-at));
           }
 
       pub writing-done : counted (noteFlows n position table) ≡ given m → m ≤ k → (days ≡ roomAfter dayOf (noteFlows n position table) days₀) × (amounts ≡ roomAfter amountOf (noteFlows n position table) amounts₀)
@@ -140,15 +140,15 @@ module _ (n : Note) (position : Float) (table : List ℕ) where
   unfolding cashFlows
   all-flows h = rw h
 
-  fits : (o : Outcome (List CashFlow)) (m places : ℕ) → counted o ≡ given m → m ≤ places → fitting places o ≡ o
+  pub fits : (o : Outcome (List CashFlow)) (m places : ℕ) → counted o ≡ given m → m ≤ places → fitting places o ≡ o
   fits (given l) m places c h = rw (le-leb (length l) places (omega (arith, given-injective c)))
   fits (refused j) m places c h = refl
 
-  short : (o : Outcome (List CashFlow)) (m places : ℕ) → counted o ≡ given m → places < m → fitting places o ≡ refused 16
+  pub short : (o : Outcome (List CashFlow)) (m places : ℕ) → counted o ≡ given m → places < m → fitting places o ≡ refused 16
   short (given l) m places c h = rw (lt-leb (length l) places (omega (arith, given-injective c)))
   short (refused j) m places c h = absurd (given-not-refused (sym c))
 
-  stopped : (o : Outcome (List CashFlow)) (j places : ℕ) → counted o ≡ refused j → fitting places o ≡ refused j
+  pub stopped : (o : Outcome (List CashFlow)) (j places : ℕ) → counted o ≡ refused j → fitting places o ≡ refused j
   stopped (given l) j places c = absurd (given-not-refused c)
   stopped (refused k) j places c = let q : k ≡ j = cc in ap refused q
 

@@ -11,7 +11,7 @@ use Rattle.holidays.specs.Table.{isTable}
 use Rattle.cash_flow.specs.declared.CashFlow.{CashFlow}
 use Rattle.bond.specs.Notes.{isPosition, noteChecks}
 use Rattle.bond.specs.declared.Note.{Note}
-use Rattle.rollout.specs.Rollout.{followed, flowsAfter, noteFlows, dayOf, amountOf}
+use Rattle.rollout.specs.Rollout.{followed, flowsAfter, noteFlows, dayOf}
 use Rattle.rollout.specs.declared.Due.{Due}
 use Rattle.rollout.specs.declared.Due.the-variants.{First, After, Nothing}
 use Rattle.rollout.specs.declared.Step.{Step}
@@ -23,7 +23,7 @@ Judged n position table = noteChecks (isPosition position) (isTable table) n ≡
 
 -- the step that a flow makes
 abbrev pub stepOf : Outcome CashFlow → Due → Step
-stepOf (given x) next = Pay (dayOf x) (amountOf x) next
+stepOf (given x) next = Pay (dayOf x) x next
 stepOf (refused k) next = Stop k
 
 -- what is left to be paid
@@ -44,15 +44,12 @@ most (After t) = 3652060 - dayNumber t
 most Nothing = 0
 
 -- a flow is paid: what is left is that flow, and what is left after it
-pub record Pays (n : Note) (position : Float) (table : List ℕ) (due : Due) (day : ℕ) (x : Float) (next : Due) : Type 0 where
-  pub flow : CashFlow
-  pub left : flowsDue n position table due ≡ followed (given flow) (flowsDue n position table next)
-  pub day-is : day ≡ dayOf flow
-  pub amount-is : x ≡ amountOf flow
+pub record Pays (n : Note) (position : Float) (table : List ℕ) (due : Due) (x : CashFlow) (next : Due) : Type 0 where
+  pub left : flowsDue n position table due ≡ followed (given x) (flowsDue n position table next)
   pub dated : Dated next
   pub fewer : most next < most due
 
 abbrev pub Turned : Note → Float → List ℕ → Due → Step → Type 0
-Turned n position table due (Pay day x next) = Pays n position table due day x next
+Turned n position table due (Pay day x next) = Pays n position table due x next × (day ≡ dayOf x)
 Turned n position table due (Stop k) = flowsDue n position table due ≡ refused k
 Turned n position table due End = flowsDue n position table due ≡ given []

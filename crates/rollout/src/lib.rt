@@ -15,6 +15,7 @@ use bond::Note;
 use bond::NoteAnswer;
 use calendar::Date;
 use calendar::DateAnswer;
+use cash_flow::CashFlow;
 use cash_flow::FlowsAnswer;
 use day_count_conv::Extras;
 use day_count_conv::RollDate;
@@ -22,15 +23,15 @@ use day_count_conv::RollPeriod;
 use day_count_conv::YearFraction;
 
 // What is due: the first coupon, what follows a coupon that ended on a date, or nothing more.
-enum Due {
+pub enum Due {
     First,
     After(Date),
     Nothing,
 }
 
-// One step: a flow's serial day and amount with what is due after it, a refusal, or the end.
-enum Step {
-    Pay(u32, f64, Due),
+// One step: a flow's serial day and the flow with what is due after it, a refusal, or the end.
+pub enum Step {
+    Pay(u32, CashFlow, Due),
     Stop(u32),
     End,
 }
@@ -42,7 +43,15 @@ fn pay(note: Note, table: &[u32], t: Date, amount: f64, next: Due) -> Step
 {
     let rule = note.business_day_rule;
     match day_adjust::adjust_judged(rule, t, table) {
-        DateAnswer::Date(u) => Step::Pay(calendar::number_of(u), amount, next),
+        DateAnswer::Date(u) => {
+            let currency = note.currency;
+            let flow = CashFlow {
+                date: u,
+                currency,
+                amount,
+            };
+            Step::Pay(calendar::number_of(u), flow, next)
+        }
         DateAnswer::Refused(k) => Step::Stop(k),
     }
 }
@@ -95,7 +104,8 @@ fn next_turn(note: Note, position: f64, table: &[u32], end: Date) -> Step
     }
 }
 
-fn turn(note: Note, position: f64, table: &[u32], due: Due) -> Step
+// Inner: one step of a note, a position and a table already judged.
+pub fn turn(note: Note, position: f64, table: &[u32], due: Due) -> Step
     requires { ⌜ (Judged note position (now table)) × (Dated due) ⌝ }
     ensures { λ r. ⌜ Turned note position (now (table .entry)) due r ⌝ }
 {
@@ -106,8 +116,8 @@ fn turn(note: Note, position: f64, table: &[u32], due: Due) -> Step
     }
 }
 
-// How many flows there are, or the first refusal.
-fn count(note: Note, position: f64, table: &[u32]) -> FlowsAnswer
+// Inner: how many flows there are, or the first refusal.
+pub fn count(note: Note, position: f64, table: &[u32]) -> FlowsAnswer
     requires { ⌜ Judged note position (now table) ⌝ }
     ensures { λ r. ⌜ flowsOutcome r ≡ counted (noteFlows note position (now (table .entry))) ⌝ }
 {
@@ -139,11 +149,11 @@ fn write(note: Note, position: f64, table: &[u32], n: usize, days: &mut [u32], a
     let mut k: usize = 0;
     let mut due = Due::First;
     while k < n {
-        let Step::Pay(day, amount, after) = turn(note, position, table, due) else {
+        let Step::Pay(day, flow, after) = turn(note, position, table, due) else {
             return;
         };
         days[k] = day;
-        amounts[k] = amount;
+        amounts[k] = flow.amount;
         due = after;
         k += 1;
     }

@@ -25,8 +25,8 @@ enum-known-next c = search needs
 
 -- the turn pays
 module _ (c : tie.After-next Inv-loop μ-loop) where
-  pays : Pays (c .before .before .before .before .before .args .note) (c .before .before .before .before .before .args .position) (c .before .before .before .before .before .args .table .now) (c .before .before .before .loop .due) (c .next .given .0 .0) (c .next .given .0 .1 .0) (c .next .given .0 .1 .1 .0)
-  pays = subst (Turned _ _ _ (c .before .before .before .loop .due)) (c .next .given .1) (c .before .before .turn .ensures)
+  pays : Pays (c .before .before .before .before .before .args .note) (c .before .before .before .before .before .args .position) (c .before .before .before .before .before .args .table .now) (c .before .before .before .loop .due) (c .next .given .0 .1 .0) (c .next .given .0 .1 .1 .0)
+  pays = subst (Turned _ _ _ (c .before .before .before .loop .due)) (c .next .given .1) (c .before .before .turn .ensures) .0
 
 add-k : tie.Need-add-k Inv-loop μ-loop
 add-k c = let i = c .before .before .before .before .loop .inv in omega (arith, i .few)

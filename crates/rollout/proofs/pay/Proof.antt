@@ -21,16 +21,16 @@ enum-known-u c = search needs
 
 number-of-requires : tie.Need-number-of-requires
 number-of-requires c κs =
-    let s : tie.Start = c .before .before .before .before .before in
-    adjusted-dated (s .args .note .«business_day_rule») (s .args .t) _ (s .args .table .now) (s .pre .0) (on (c .before))
+    let s : tie.Start = c .before .before .before .before .before .before in
+    adjusted-dated (s .args .note .«business_day_rule») (s .args .t) _ (s .args .table .now) (s .pre .0) (on (c .before .before))
 
 enum-known-k : tie.Need-enum-known-k
 enum-known-k c = search needs
 
 returns : tie.Need-returns
 returns c =
-    let s : tie.Start = c .before .before .before .before .before .before in
-    pay-paid (s .args .note) (s .args .table .now) (s .args .t) (s .args .amount) (s .args .next) _ _ (on (c .before .before)) (c .number-of .ensures)
+    let s : tie.Start = c .before .before .before .before .before .before .before in
+    pay-paid (s .args .note) (s .args .table .now) (s .args .t) (s .args .amount) (s .args .next) _ _ (on (c .before .before .before)) (c .number-of .ensures)
 
 returns-2 : tie.Need-returns-2
 returns-2 c =

@@ -1,0 +1,3 @@
+pub mod Rolled
+pub mod OneOutcome
+pub mod Examples

@@ -1,0 +1,53 @@
+-- `rollout_records::answer_within` meets its contract: the note's checks, then its flows.
+-- Assumes nothing.
+use mathlib.Core.Path.{sym, _∙_, ap}
+use borrow.Author.Needs.{needs}
+use Rattle.bond.specs.Notes.{noteOutcome}
+use Rattle.rollout.proofs.Passes.{judged-by}
+use Rattle.rollout_records.proofs.Rolled.{note-refused}
+use Rattle.rollout_records.proofs.answer_within.Statement.{statement}
+use Rattle.rollout_records.proofs.answer_within.Tie as tie
+
+is-position-requires : tie.Need-is-position-requires
+is-position-requires c κs = search needs
+
+is-table-requires : tie.Need-is-table-requires
+is-table-requires c κs = search needs
+
+check-note-with-requires : tie.Need-check-note-with-requires
+check-note-with-requires c κs = search needs
+
+enum-told : tie.Need-enum-told
+enum-told c = search needs
+
+count-within-requires : tie.Need-count-within-requires
+count-within-requires c κs =
+    let k = c .before .before in
+    let s : tie.Start = k .before .before .before .before in
+    judged-by (s .args .note) (s .args .position) (s .args .table .now) _ _ _ (k .before .before .is-position .ensures) (k .before .is-table .ensures) (sym (k .check-note-with .ensures) ∙ ap noteOutcome (c .enum-told .given .1))
+
+enum-known-k : tie.Need-enum-known-k
+enum-known-k c = search needs
+
+returns : tie.Need-returns
+returns c = search needs
+
+returns-2 : tie.Need-returns-2
+returns-2 c =
+    let e = c .before in
+    let k = e .before .before in
+    let s : tie.Start = k .before .before .before .before in
+    note-refused (s .args .note) (s .args .position) (s .args .table .now) (s .args .places) _ _ _ (k .before .before .is-position .ensures) (k .before .is-table .ensures) (sym (k .check-note-with .ensures) ∙ ap noteOutcome (e .k .given .1))
+
+pub answer-within-spec : {M : Type 1} → statement M
+answer-within-spec =
+    tie.close
+    (tie.spec
+    is-position-requires
+    is-table-requires
+    check-note-with-requires
+    enum-told
+    count-within-requires
+    enum-known-k
+    returns
+    returns-2)

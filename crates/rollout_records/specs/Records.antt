@@ -1,0 +1,23 @@
+-- A rollout into lent records: the flows as they are, date, currency and amount.
+-- Assumes nothing.
+use Prim.Native.Nat.{ℕ}
+use mathlib.Core.Path.{_≡_}
+use mathlib.Core.List.{List}
+use lib.ListN.{length}
+use lib.Ieee.{Float}
+use Rattle.paper.specs.Outcome.{Outcome}
+use Rattle.room.specs.Room.{fitting, counted, roomAfter}
+use Rattle.cash_flow.specs.Flows.{flowsOutcome}
+use Rattle.cash_flow.specs.declared.CashFlow.{CashFlow}
+use Rattle.cash_flow.specs.declared.FlowsAnswer.{FlowsAnswer}
+use Rattle.bond.specs.declared.Note.{Note}
+use Rattle.rollout.specs.Rollout.{cashFlows}
+
+-- the note's flows, and last 16: fewer places than flows
+unfoldable pub recordsFitted : Note → Float → List ℕ → ℕ → Outcome (List CashFlow)
+recordsFitted n position table places = fitting places (cashFlows n position table)
+
+-- how many were written; and the room holds the flows, and then what it held
+pub record RecordsPromise (n : Note) (position : Float) (table : List ℕ) (room : List CashFlow) (r : FlowsAnswer) (room′ : List CashFlow) : Type 0 where
+  pub answer : flowsOutcome r ≡ counted (recordsFitted n position table (length room))
+  pub contents : room′ ≡ roomAfter (λ x. x) (recordsFitted n position table (length room)) room

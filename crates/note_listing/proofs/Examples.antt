@@ -1,0 +1,11 @@
+-- The paper's own listing, and a refusal.
+-- Assumes nothing.
+use mathlib.Core.Path.{_≡_, refl}
+use mathlib.Core.List.{[], _∷_}
+use Rattle.text.specs.Writing.{digits, placesWithin, places, decimalText}
+use Rattle.note_listing.specs.Listing.{numberText, refusedText}
+
+-- `refused 18` and a line feed
+pub malformed : refusedText 18 ≡ 114 ∷ 101 ∷ 102 ∷ 117 ∷ 115 ∷ 101 ∷ 100 ∷ 32 ∷ 49 ∷ 56 ∷ 10 ∷ []
+unfolding refusedText numberText decimalText places placesWithin digits
+malformed = refl

@@ -1,0 +1,4 @@
+pub mod Lines
+pub mod Notes
+pub mod OneOutcome
+pub mod Examples

@@ -13,7 +13,6 @@ use Rattle.paper.proofs.Outcomes.{both-true, given-injective, given-not-refused
 use Rattle.calendar.specs.Dates.{isDate, isBefore, dayNumber}
 use Rattle.calendar.specs.declared.Date.{Date}
 use Rattle.calendar.proofs.Dates.{date-yes, date-is, number-from, number-to}
-use Rattle.calendar.proofs.Order.{before-days}
 use Rattle.holidays.specs.Table.{isTable, ascending}
 use Rattle.day_adjust.specs.Adjustment.{adjusted}
 use Rattle.day_adjust.specs.declared.DayAdjust.{DayAdjust}
@@ -21,11 +20,8 @@ use Rattle.day_adjust.specs.declared.DayAdjust.the-variants as rule
 use Rattle.day_adjust.proofs.Adjusting.{none-stays, adjusted-gives}
 use Rattle.time_period.specs.Steps.{absent, stepped}
 use Rattle.day_fraction.specs.Fractions.{Span}
-use Rattle.day_count_conv.specs.Conventions.{Values, inBits, byRule, rollDated, yearFraction}
-use Rattle.day_count_conv.specs.declared.DayCountConv.{DayCountConv}
-use Rattle.day_count_conv.specs.declared.DayCountConv.the-variants as conv
-use Rattle.day_count_conv.specs.declared.Extras.{Extras}
-use Rattle.day_count_conv.specs.declared.RollDate.the-variants as roll-date
+use Rattle.day_count_conv.specs.Conventions.{inBits, byRule, yearFraction}
+use Rattle.day_count_conv.proofs.Judged.{span-fraction, roll-dated}
 use Rattle.cash_flow.specs.declared.CashFlow.{CashFlow}
 use Rattle.bond.specs.Notes.{isPosition, noteChecks, firstCouponEnd, nominalOf, couponAmount}
 use Rattle.bond.specs.declared.Note.{Note}
@@ -65,23 +61,6 @@ module _ (n : Note) (table : List ℕ) (t : Date) (x : Float) (next : Due) where
   pay-stop k e = sym (ap (λ (o : Outcome Date). stepOf (andThen o (λ v. given (record { date = v; currency = n .currency; amount = x }))) next) e)
 
 -- ---- a coupon
-
--- of dates already judged the fraction is what its rule gives
-pub span-fraction : {A : Type 0} (v : Values A) (r : DayCountConv) (start end : Date) (x : Extras) → Span start end → rollDated r (x .roll) ≡ true → yearFraction v r start end x ≡ byRule v r start end x
-unfolding yearFraction
-span-fraction v r start end x s d = rw (s .first, s .last, d, not-turned (isBefore end start) refl)
-  where
-    not-turned : (b : Bool) → isBefore end start ≡ b → isBefore end start ≡ false
-    not-turned true e = let l = before-days end start (date-yes end (s .last)) (date-yes start (s .first)) e in absurd (omega (arith, s .order))
-    not-turned false e = e
-
-pub roll-dated : (r : DayCountConv) (roll : Date) → isDate roll ≡ true → rollDated r (roll-date.Date roll) ≡ true
-roll-dated conv.Act365 roll d = refl
-roll-dated conv.Act360 roll d = refl
-roll-dated conv.Act365l roll d = refl
-roll-dated conv.D30_360 roll d = refl
-roll-dated conv.D30E360 roll d = refl
-roll-dated conv.ActActICMA roll d = d
 
 module _ (n : Note) (position : Float) (table : List ℕ) (start end roll : Date) (s : Span start end) (d : isDate roll ≡ true) where
   flow-of : (o : Outcome Float) → byRule inBits (n .«day_count_convention») start end (rolledFrom n roll) ≡ o → couponFlow n position table start end roll ≡ andThen o (λ fraction. paid n table end (couponAmount position n fraction))

@@ -4,7 +4,8 @@ use mathlib.Core.Path.{_≡_, sym, _∙_, ap}
 use borrow.Author.Needs.{needs}
 use Rattle.day_count_conv.specs.Conventions.{fractionOutcome, inBits, byRule}
 use Rattle.rollout.specs.Rollout.{rolledFrom}
-use Rattle.rollout.proofs.Flows.{roll-dated, coupon-pays, coupon-stops}
+use Rattle.day_count_conv.proofs.Judged.{roll-dated}
+use Rattle.rollout.proofs.Flows.{coupon-pays, coupon-stops}
 use Rattle.rollout.proofs.coupon.Statement.{statement}
 use Rattle.rollout.proofs.coupon.Tie as tie
 

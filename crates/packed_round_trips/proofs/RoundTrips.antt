@@ -1,15 +1,19 @@
 -- Written and read: each gives back what the other took.
 -- Assumes nothing.
 use Prim.Native.Nat.{ℕ}
-use mathlib.Core.Path.{_≡_, sym, ap, subst, _∙_}
+use mathlib.Core.Path.{_≡_, refl, sym, ap, subst, _∙_}
 use mathlib.Core.List.{List}
-use Rattle.paper.specs.Outcome.{given}
-use Rattle.paper.proofs.Outcomes.{given-injective}
+use lib.ListN.{take}
+use Rattle.paper.specs.Outcome.{Outcome, given, refused, andThen}
+use Rattle.paper.proofs.Outcomes.{given-injective, given-not-refused}
 use Rattle.bit_fields.specs.Bits.{AreBytes}
 use Rattle.bond.specs.declared.Note.{Note}
 use Rattle.packed.specs.Tables.{Unpacked, unpacked}
 use Rattle.packed_write.specs.Fields.{rawWith}
-use Rattle.packed_write.specs.Writing.{packedNote}
+use Rattle.text.specs.Writing.{writtenLength}
+use Rattle.text.specs.declared.LengthAnswer.the-variants.{Length}
+use Rattle.text.proofs.Writers.{written-text}
+use Rattle.packed_write.specs.Writing.{packedNote, bytesAfter, WritePromise}
 use Rattle.packed_round_trips.specs.RoundTrips.{InMachine, RoundTrips}
 use Rattle.packed_round_trips.proofs.Written.{was-packed, raw-bytes, reads-back}
 use Rattle.packed_round_trips.proofs.Read.{writes-back}
@@ -20,15 +24,31 @@ written-bytes n table s e = subst AreBytes (was-packed n table s e .bytes) (raw-
 written-reads : (n : Note) (table s : List ℕ) → InMachine n → packedNote n table ≡ given s → unpacked s ≡ given (record { note = n; days = table })
 written-reads n table s m e = let p = was-packed n table s e in ap unpacked (sym (p .bytes)) ∙ reads-back n table (p .note) (p .table-taken) m
 
+-- what the promise says of the bytes: the record was written
+length-given : (o : Outcome (List ℕ)) (old : List ℕ) (k : ℕ) → given k ≡ andThen o (writtenLength old) → (s : List ℕ) × (o ≡ given s) × (given k ≡ writtenLength old s)
+length-given (given s) old k e = (s, refl, e)
+length-given (refused n) old k e = absurd (given-not-refused e)
+
+lent-reads : (n : Note) (table old new : List ℕ) (k : ℕ) → InMachine n → WritePromise n table old new (Length k) → unpacked (take k new) ≡ given (record { note = n; days = table })
+lent-reads n table old new k m p =
+    let w = length-given (packedNote n table) old k (p .answer) in
+    let text : take k new ≡ w .0 = written-text old new (w .0) k (w .2, p .bytes ∙ ap (bytesAfter old) (w .1)) in
+    ap unpacked text ∙ written-reads n table (w .0) m (w .1)
+
+one-note : (n m : Note) (table days s : List ℕ) → InMachine n → InMachine m → packedNote n table ≡ given s → packedNote m days ≡ given s → (n ≡ m) × (table ≡ days)
+one-note n m table days s h k e f =
+    let same : _≡_ {A = Unpacked} (record { note = n; days = table }) (record { note = m; days = days }) = given-injective (sym (written-reads n table s h e) ∙ written-reads m days s k f) in
+    (ap (λ (p : Unpacked). p .note) same, ap (λ (p : Unpacked). p .days) same)
+
+other-count : (n m : Note) (table days s t : List ℕ) → InMachine n → InMachine m → packedNote n table ≡ given s → packedNote m days ≡ given t → (n .number .count ≡ m .number .count → ⊥) → s ≡ t → ⊥
+other-count n m table days s t h k e f apart q = apart (ap (λ (x : Note). x .number .count) (one-note n m table days s h k e (f ∙ ap given (sym q)) .0))
+
 pub round-trips : RoundTrips
 round-trips = record {
   written-bytes = written-bytes;
   written-reads = written-reads;
+  lent-reads = lent-reads;
   read-writes = writes-back;
-  one-note = one;
+  one-note = one-note;
+  other-count = other-count;
 }
-  where
-    one : (n m : Note) (table days s : List ℕ) → InMachine n → InMachine m → packedNote n table ≡ given s → packedNote m days ≡ given s → (n ≡ m) × (table ≡ days)
-    one n m table days s h k e f =
-        let same : _≡_ {A = Unpacked} (record { note = n; days = table }) (record { note = m; days = days }) = given-injective (sym (written-reads n table s h e) ∙ written-reads m days s k f) in
-        (ap (λ (p : Unpacked). p .note) same, ap (λ (p : Unpacked). p .days) same)

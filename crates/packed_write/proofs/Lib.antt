@@ -3,3 +3,5 @@ pub mod Pens
 pub mod Codes
 pub mod Accepted
 pub mod Answers
+pub mod OneOutcome
+pub mod Examples

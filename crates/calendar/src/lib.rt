@@ -114,17 +114,18 @@ pub fn day_of(t: Date) -> DayAnswer
     }
 }
 
-// The year of a serial day, by halving the years of its cycle.
+// The year of a serial day, by halving the years of its cycle. The table is taken once.
 fn year_of(n: u32) -> u32
     requires { ⌜ (1 ≤ n) × (n ≤ 3652059) ⌝ }
     ensures { λ r. ⌜ r ≡ yearOf n ⌝ }
 {
     let e = (n - 1) % DAYS_OF_CYCLE + 1;
+    let first = gregorian::first_of_years();
     let mut lo: u32 = 0;
     let mut hi: u32 = 400;
     while lo + 1 < hi {
         let mid = (lo + hi) / 2;
-        if gregorian::first_of_year(mid) <= e {
+        if first[mid as usize] <= e {
             lo = mid;
         } else {
             hi = mid;

@@ -84,7 +84,7 @@ stays-400 n h = omega arith
 moves : (x x' l a a' b b' c c' n : ℕ) → x + b ≡ 365 * n + a + c → x' ≡ x + l → l + b' + a + c ≡ 365 + b + a' + c' → x' + b' ≡ 365 * suc n + a' + c'
 moves x x' l a a' b b' c c' n p q r = omega arith
 
--- the usual closed form, for a reader: 365 days for each year, and a day for each leap year
+-- the usual closed form: 365 days for each year, and a day for each leap year
 pub closed : (n : ℕ) → beforeYear (suc n) + n / 100 ≡ 365 * n + n / 4 + n / 400
 closed zero = omega (arith, before-one)
 closed (suc n) =
@@ -105,3 +105,13 @@ closed (suc n) =
         rw (by-rule n false false true p q r, stays-100 n (eqb-false (suc n % 100) 0 p), stays-400 n (eqb-false (suc n % 400) 0 q), rises-4 n (eqb-true (suc n % 4) 0 r)) (omega arith)
     by false false false p q r =
         rw (by-rule n false false false p q r, stays-100 n (eqb-false (suc n % 100) 0 p), stays-400 n (eqb-false (suc n % 400) 0 q), stays-4 n (eqb-false (suc n % 4) 0 r)) (omega arith)
+
+taken-off : (x n a b d : ℕ) → x + b ≡ 365 * n + a + d → b ≤ a → 365 * n + a - b + d ≡ x
+taken-off x n a b d p h = omega arith
+
+-- the closed form at the year y, of the y - 1 years before it
+pub by-rule-of-leaps : (y : ℕ) → 1 ≤ y → 365 * (y - 1) + (y - 1) / 4 - (y - 1) / 100 + (y - 1) / 400 ≡ beforeYear y
+by-rule-of-leaps y h =
+    let n = y - 1 in
+    let e : suc n ≡ y = omega arith in
+    taken-off (beforeYear y) n (n / 4) (n / 100) (n / 400) (rw e at (closed n)) (omega arith)

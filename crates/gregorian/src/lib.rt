@@ -1,10 +1,9 @@
 // The proleptic Gregorian calendar: leap years, the lengths of months and years, and the days before each.
 ghost use mathlib.Core.Path.{_≡_};
 ghost use mathlib.Core.Bool.{false};
-ghost use Prim.Native.Nat.{suc, _+_, _<_, _≤_};
+ghost use Prim.Native.Nat.{ℕ, suc, _+_, _<_, _≤_};
+ghost use lib.ListN.{getD};
 ghost use Rattle.gregorian.specs.Gregorian.{leap, lengthIn, monthLength, yearLength, before, beforeYear, beforeMonth};
-
-const DAYS_OF_CYCLE: u32 = 146097;
 
 // The serial day of 1 January of each year of the first cycle: FIRST_OF_YEAR[k] is that of year k + 1.
 const FIRST_OF_YEAR: [u32; 400] = [
@@ -461,12 +460,20 @@ pub fn length_of_year(year: u32) -> u32
     if is_leap(year) { 366 } else { 365 }
 }
 
+// Inner: the whole table. Each call writes it out, so that a search takes it once and then reads it.
+pub fn first_of_years() -> [u32; 400]
+    ensures { λ r. ⌜ ((k : ℕ) → k < 400 → getD r k 0 ≡ beforeYear (suc k) + 1) ⌝ }
+{
+    FIRST_OF_YEAR
+}
+
 // Inner: the serial day of 1 January of the year k + 1, in the first cycle.
 pub fn first_of_year(k: u32) -> u32
     requires { ⌜ k < 400 ⌝ }
     ensures { λ r. ⌜ r ≡ beforeYear (suc k) + 1 ⌝ }
 {
-    FIRST_OF_YEAR[k as usize]
+    let first = first_of_years();
+    first[k as usize]
 }
 
 // Inner: the days before 1 January of a year of the calendar.
@@ -475,7 +482,7 @@ pub fn days_before_year(year: u32) -> u32
     ensures { λ r. ⌜ r ≡ beforeYear year ⌝ }
 {
     let past = year - 1;
-    past / 400 * DAYS_OF_CYCLE + first_of_year(past % 400) - 1
+    365 * past + past / 4 - past / 100 + past / 400
 }
 
 // The days of a common year before a month of it.

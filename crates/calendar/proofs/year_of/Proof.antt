@@ -1,8 +1,9 @@
 -- `calendar::year_of` meets its contract: the years of the cycle are halved, and the table says on which side the day lies.
 -- Assumes nothing.
-use Prim.Native.Nat.{suc, _-_, _≤_, _<_}
+use Prim.Native.Nat.{suc, _+_, _-_, _/_, _≤_, _<_}
 use mathlib.Core.Path.{_≡_}
 use native.Mathlib.Omega.{arith}
+use borrow.Author.Needs.{needs}
 use Rattle.gregorian.specs.Gregorian.{beforeYear}
 use Rattle.calendar.proofs.Dates.{year-in-cycle}
 use Rattle.gregorian.proofs.Years.{before-one, whole}
@@ -10,16 +11,19 @@ use Rattle.calendar.proofs.year_of.Statement.{statement}
 use Rattle.calendar.proofs.year_of.Tie as tie
 
 abbrev Inv-loop : tie.InvT-loop
-Inv-loop n e lo₀ hi₀ lo hi = (lo < hi) × (hi ≤ 400) × (beforeYear (suc lo) < e) × (e ≤ beforeYear (suc hi))
+Inv-loop n e first lo₀ hi₀ lo hi = (lo < hi) × (hi ≤ 400) × (beforeYear (suc lo) < e) × (e ≤ beforeYear (suc hi))
 
 abbrev μ-loop : tie.MeasureT-loop
-μ-loop n e lo₀ hi₀ lo hi = hi - lo
+μ-loop n e first lo₀ hi₀ lo hi = hi - lo
 
 sub-e : tie.Need-sub-e Inv-loop μ-loop
 sub-e c = omega arith
 
 add-e : tie.Need-add-e Inv-loop μ-loop
 add-e c = omega arith
+
+first-of-years-requires : tie.Need-first-of-years-requires Inv-loop μ-loop
+first-of-years-requires c κs = search needs
 
 loop-holds : tie.Need-loop-holds Inv-loop μ-loop
 loop-holds c = omega (arith, before-one, whole)
@@ -30,20 +34,26 @@ add-loop c = omega arith
 add-mid : tie.Need-add-mid Inv-loop μ-loop
 add-mid c = omega arith
 
-first-of-year-requires : tie.Need-first-of-year-requires Inv-loop μ-loop
-first-of-year-requires c κs = omega arith
+cast-if1 : tie.Need-cast-if1 Inv-loop μ-loop
+cast-if1 c = search needs
+
+mul-if1 : tie.Need-mul-if1 Inv-loop μ-loop
+mul-if1 c = search needs
+
+array-read-if1 : tie.Need-array-read-if1 Inv-loop μ-loop
+array-read-if1 c = search needs
 
 loop-less : tie.Need-loop-less Inv-loop μ-loop
 loop-less c = omega arith
 
 loop-again : tie.Need-loop-again Inv-loop μ-loop
-loop-again c = omega (arith, c .before .first-of-year .ensures)
+loop-again c = let l = c .before .before .loop in omega (arith, c .before .before .before .first-of-years .ensures ((l .lo + l .hi) / 2) (omega arith))
 
 loop-less-2 : tie.Need-loop-less-2 Inv-loop μ-loop
 loop-less-2 c = omega arith
 
 loop-again-2 : tie.Need-loop-again-2 Inv-loop μ-loop
-loop-again-2 c = omega (arith, c .before .first-of-year .ensures)
+loop-again-2 c = let l = c .before .before .loop in omega (arith, c .before .before .before .first-of-years .ensures ((l .lo + l .hi) / 2) (omega arith))
 
 sub-result : tie.Need-sub-result Inv-loop μ-loop
 sub-result c = omega arith
@@ -60,7 +70,7 @@ add-result-2 c = omega arith
 returns : tie.Need-returns Inv-loop μ-loop
 returns c =
     let l = c .before .loop in
-    let n = c .before .before .args .n in
+    let n = c .before .before .before .args .n in
     let e : l .hi ≡ suc (l .lo) = omega arith in
     year-in-cycle n (l .lo) (omega arith) (omega arith) (l .inv .2) (rw e at (l .inv .3))
 
@@ -72,10 +82,13 @@ year-of-spec =
     μ-loop
     sub-e
     add-e
+    first-of-years-requires
     loop-holds
     add-loop
     add-mid
-    first-of-year-requires
+    cast-if1
+    mul-if1
+    array-read-if1
     loop-less
     loop-again
     loop-less-2

@@ -1,10 +1,7 @@
--- `gregorian::days_before_year` meets its contract: whole cycles, and the table for the years of the last.
+-- `gregorian::days_before_year` meets its contract, by the closed form: 365 days for each year, and a day for each leap year.
 -- Assumes nothing.
-use native.Mathlib.Omega.{arith}
 use borrow.Author.Needs.{needs}
-use Rattle.gregorian.specs.Gregorian.{yearLength}
-use Rattle.gregorian.proofs.Years.{by-cycles, last-day}
-use Rattle.gregorian.proofs.Counting.{before-mono}
+use Rattle.gregorian.proofs.Years.{by-rule-of-leaps}
 use Rattle.gregorian.proofs.days_before_year.Statement.{statement}
 use Rattle.gregorian.proofs.days_before_year.Tie as tie
 
@@ -14,18 +11,18 @@ sub-past c = search needs
 mul-result : tie.Need-mul-result
 mul-result c = search needs
 
-first-of-year-requires : tie.Need-first-of-year-requires
-first-of-year-requires c κs = search needs
-
 add-result : tie.Need-add-result
-add-result c = omega (arith, by-cycles (c .before .args .year) (c .before .pre .0), before-mono yearLength (c .before .args .year) 10000 (omega arith), last-day)
+add-result c = search needs
 
 sub-result : tie.Need-sub-result
 sub-result c = search needs
 
+add-result-2 : tie.Need-add-result-2
+add-result-2 c = search needs
+
 returns : tie.Need-returns
-returns c = omega (arith, by-cycles (c .before .args .year) (c .before .pre .0))
+returns c = by-rule-of-leaps (c .args .year) (c .pre .0)
 
 pub days-before-year-spec : {M : Type 1} → statement M
 days-before-year-spec =
-    tie.close (tie.spec sub-past mul-result first-of-year-requires add-result sub-result returns)
+    tie.close (tie.spec sub-past mul-result add-result sub-result add-result-2 returns)

@@ -1,11 +1,11 @@
--- `gregorian::first_of_year` meets its contract: the table is the list of its rule's values, which antt computes.
+-- `gregorian::first_of_year` meets its contract: an entry of the table.
 -- Assumes nothing.
-use Prim.Native.Nat.{ℕ, suc, _+_}
 use borrow.Author.Needs.{needs}
-use Rattle.gregorian.specs.Gregorian.{leap, yearLength, before, beforeYear}
-use Rattle.gregorian.proofs.Table.{table, table-at}
 use Rattle.gregorian.proofs.first_of_year.Statement.{statement}
 use Rattle.gregorian.proofs.first_of_year.Tie as tie
+
+first-of-years-requires : tie.Need-first-of-years-requires
+first-of-years-requires c κs = search needs
 
 mul-result : tie.Need-mul-result
 mul-result c = search needs
@@ -14,8 +14,7 @@ array-read-result : tie.Need-array-read-result
 array-read-result c = search needs
 
 returns : tie.Need-returns
-unfolding leap yearLength before table
-returns c = table-at (λ (k : ℕ). beforeYear (suc k) + 1) 400 (c .args .k) (c .pre)
+returns c = c .first-of-years .ensures (c .before .args .k) (c .before .pre)
 
 pub first-of-year-spec : {M : Type 1} → statement M
-first-of-year-spec = tie.close (tie.spec mul-result array-read-result returns)
+first-of-year-spec = tie.close (tie.spec first-of-years-requires mul-result array-read-result returns)

@@ -1,4 +1,4 @@
--- The paper's own listing, and a refusal.
+-- A refusal as it is written.
 -- Assumes nothing.
 use mathlib.Core.Path.{_≡_, refl}
 use mathlib.Core.List.{[], _∷_}

@@ -12,7 +12,7 @@ use borrow.Author.Tests.{eq-eqb, ne-eqb}
 use Rattle.paper.specs.Outcome.{pick}
 use Rattle.text.specs.Writing.{digits, places}
 use Rattle.text.proofs.Digits.{pow-some, lt-or-le, digits-first, places-few, places-least, places-enough}
-use Rattle.text.proofs.Decimals.{byte-first}
+use Rattle.reading.proofs.Decimals.{byte-first}
 use Rattle.big_digits.specs.BigDigits.{zerosLeading}
 
 -- ---- counted up from the start

@@ -4,7 +4,7 @@ use Prim.Native.Nat.{ℕ}
 use mathlib.Core.Path.{_≡_, refl}
 use mathlib.Core.List.{[], _∷_}
 use Rattle.paper.specs.Outcome.{given, refused}
-use Rattle.text.specs.Reading.{isDigit, allDigits, isDecimal, continued, decimalNumber, begins, afterPlus, unsignedNumber}
+use Rattle.reading.specs.Reading.{isDigit, allDigits, isDecimal, continued, decimalNumber, begins, afterPlus, unsignedNumber}
 use Rattle.text.specs.Writing.{digits, placesWithin, places, paddedText}
 use Rattle.gregorian.specs.Gregorian.{leap, lengthIn, monthLength}
 use Rattle.coupon_date.specs.Coupons.{couponDate, isBlank, trimStart, before, trimEnd, trimmed, hasDot, upToDot, afterDot, monthPart, dayPart, couponText, couponDateText}

@@ -7,11 +7,11 @@ use native.Mathlib.Omega.{arith}
 use lib.Dec.{leb}
 use Rattle.paper.specs.Outcome.{Numbered, both}
 use Rattle.paper.proofs.Outcomes.{given-injective, refused-injective, given-not-refused, unless-numbered, then-numbered}
-use Rattle.text.specs.Reading.{unsignedNumber}
+use Rattle.reading.specs.Reading.{unsignedNumber}
 use Rattle.text.specs.Writing.{lengthOutcome, Written}
 use Rattle.text.specs.declared.LengthAnswer.{LengthAnswer}
 use Rattle.text.proofs.OneOutcome.{one-write}
-use Rattle.text.proofs.Decimals.{unsigned-numbered}
+use Rattle.reading.proofs.Decimals.{unsigned-numbered}
 use Rattle.gregorian.specs.Gregorian.{monthLength}
 use Rattle.coupon_date.specs.Coupons.{couponOutcome, couponDate, trimmed, hasDot, upToDot, afterDot, monthPart, dayPart, couponText, couponDateText, NewPromise, ReadPromise}
 use Rattle.coupon_date.specs.declared.CouponDate.{CouponDate}

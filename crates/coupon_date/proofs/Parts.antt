@@ -10,7 +10,7 @@ use lib.Dec.{eqb}
 use lib.ListN.{length, take, drop, getD, drop-of-length-le, length-drop}
 use lib.Seq.{take-suc, take-all}
 use borrow.Author.Tests.{eq-eqb, ne-eqb}
-use Rattle.text.proofs.Decimals.{byte-first}
+use Rattle.reading.proofs.Decimals.{byte-first}
 use Rattle.coupon_date.specs.Coupons.{isBlank, trimStart, before, trimEnd, hasDot, upToDot, afterDot, DotAt}
 
 -- a part up to the end of the text, and one up to a place

@@ -10,9 +10,9 @@ use lib.ListN.{length, length-append}
 use borrow.Author.Tests.{ne-eqb, lt-leb, le-leb, leb-true}
 use Rattle.paper.specs.Outcome.{given, both}
 use Rattle.paper.proofs.Outcomes.{both-true, unless-given, given-injective}
-use Rattle.text.specs.Reading.{isDigit, allDigits}
+use Rattle.reading.specs.Reading.{isDigit, allDigits}
 use Rattle.text.specs.Writing.{paddedText}
-use Rattle.text.proofs.Decimals.{digit-bounds}
+use Rattle.reading.proofs.Decimals.{digit-bounds}
 use Rattle.text.proofs.Digits.{length-padded, places-least, digits-all}
 use Rattle.text.proofs.RoundTrips.{padded-back}
 use Rattle.gregorian.specs.Gregorian.{monthLength}

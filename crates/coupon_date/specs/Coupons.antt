@@ -8,7 +8,7 @@ use lib.Dec.{leb, eqb}
 use lib.ListN.{length, take, drop}
 use Rattle.paper.specs.Outcome.{Outcome, given, refused, unless, andThen, pick, both}
 use Rattle.gregorian.specs.Gregorian.{monthLength}
-use Rattle.text.specs.Reading.{unsignedNumber}
+use Rattle.reading.specs.Reading.{unsignedNumber}
 use Rattle.text.specs.Writing.{paddedText}
 use Rattle.coupon_date.specs.declared.CouponDate.{CouponDate}
 use Rattle.coupon_date.specs.declared.CouponAnswer.{CouponAnswer}

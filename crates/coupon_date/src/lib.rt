@@ -5,8 +5,8 @@ ghost use Prim.Native.Nat.{_+_, _≤_};
 ghost use lib.ListN.{length, take, drop};
 ghost use Rattle.text.specs.Writing.{paddedText, lengthOutcome, Written, Wrote};
 ghost use Rattle.coupon_date.specs.Coupons.{isBlank, trimStart, trimEnd, trimmed, DotAt, couponOutcome, monthPart, dayPart, couponDateText, NewPromise, ReadPromise};
+use reading::NumberAnswer;
 use text::LengthAnswer;
-use text::NumberAnswer;
 
 pub struct CouponDate {
     pub day: u32,
@@ -107,7 +107,7 @@ fn read_month(s: &[u8], day: u32) -> CouponAnswer
     ensures { λ r. ⌜ couponOutcome r ≡ monthPart day (now (s .entry)) ⌝ }
 {
     let dot = dot_at(s);
-    match text::read_u32(&s[..dot], paper::COUPON_PARSE_ERROR) {
+    match reading::read_u32(&s[..dot], paper::COUPON_PARSE_ERROR) {
         NumberAnswer::Number(month) => new_coupon_date(day, month),
         NumberAnswer::Refused(n) => CouponAnswer::Refused(n),
     }
@@ -120,7 +120,7 @@ fn read_day(s: &[u8]) -> CouponAnswer
     if s.len() <= dot {
         return CouponAnswer::Refused(paper::COUPON_PARSE_ERROR);
     }
-    match text::read_u32(&s[..dot], paper::COUPON_PARSE_ERROR) {
+    match reading::read_u32(&s[..dot], paper::COUPON_PARSE_ERROR) {
         NumberAnswer::Number(day) => {
             let next = dot + 1;
             read_month(&s[next..], day)

@@ -11,9 +11,9 @@ use lib.Arith.{mod-mul}
 use lib.ListN.{length, replicate, length-append, replicate-append-replicate}
 use borrow.Author.Tests.{lt-ltb, le-ltb}
 use Rattle.paper.specs.Outcome.{both}
-use Rattle.text.specs.Reading.{isDigit, allDigits, isDecimal, continued, decimalValue}
+use Rattle.reading.specs.Reading.{isDigit, allDigits, isDecimal, continued, decimalValue}
 use Rattle.text.specs.Writing.{digits, placesWithin, places, decimalText, paddedText}
-use Rattle.text.proofs.Decimals.{digit-yes}
+use Rattle.reading.proofs.Decimals.{digit-yes}
 
 pub lt-or-le : (a b : ℕ) → (a < b) ⊎ (b ≤ a)
 lt-or-le zero zero = inr (omega arith)

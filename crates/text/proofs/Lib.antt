@@ -1,4 +1,3 @@
-pub mod Decimals
 pub mod Signs
 pub mod Digits
 pub mod Putting

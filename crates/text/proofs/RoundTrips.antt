@@ -11,9 +11,9 @@ use mir.Val.{SFits}
 use borrow.Author.Tests.{le-leb, ne-eqb}
 use Rattle.paper.specs.Outcome.{given}
 use Rattle.paper.proofs.Outcomes.{both-true}
-use Rattle.text.specs.Reading.{isDigit, allDigits, isDecimal, decimalNumber, begins, afterPlus, unsignedNumber, belowZero, fromZero, signedNumber}
+use Rattle.reading.specs.Reading.{isDigit, allDigits, isDecimal, decimalNumber, begins, afterPlus, unsignedNumber, belowZero, fromZero, signedNumber}
 use Rattle.text.specs.Writing.{digits, places, decimalText, paddedText, signedText}
-use Rattle.text.proofs.Decimals.{digit-bounds}
+use Rattle.reading.proofs.Decimals.{digit-bounds}
 use Rattle.text.proofs.Digits.{digits-decimal, value-whole, places-some, places-enough}
 
 -- a decimal has no sign before it

@@ -8,9 +8,9 @@ use native.Mathlib.Omega.{arith}
 use lib.Arith.{digits-div}
 use lib.ListN.{length}
 use Rattle.paper.proofs.Outcomes.{both-true}
-use Rattle.text.specs.Reading.{isDigit, allDigits, isDecimal, continued, decimalValue}
+use Rattle.reading.specs.Reading.{isDigit, allDigits, isDecimal, continued, decimalValue}
 use Rattle.text.specs.Writing.{digits, places, decimalText, paddedText}
-use Rattle.text.proofs.Decimals.{digit-bounds}
+use Rattle.reading.proofs.Decimals.{digit-bounds}
 use Rattle.text.proofs.Digits.{length-decimal, places-least, places-some, digits-first, digits-decimal, value-whole, places-enough}
 
 -- ---- a decimal by its first digit

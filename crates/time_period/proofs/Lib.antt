@@ -1,5 +1,4 @@
 pub mod Signs
-pub mod Texts
 pub mod Frequencies
 pub mod Judging
 pub mod Steps

@@ -1,25 +1,17 @@
 -- No second answer satisfies an entry point's promise; and a refusal's number is never 0.
 -- Assumes nothing.
-use Prim.Native.Nat.{ℕ, _-_, _<_}
+use Prim.Native.Nat.{ℕ, _<_}
 use mathlib.Core.Path.{_≡_, refl, sym, _∙_, ap}
 use mathlib.Core.Bool.{Bool, true, false, not}
-use mathlib.Core.List.{List}
 use native.Mathlib.Omega.{arith}
-use lib.Dec.{leb, eqb}
 use lib.IntN.{ℤ}
-use lib.ListN.{length, take, getD}
-use Rattle.paper.specs.Outcome.{Outcome, given, refused, Numbered, pick, unless}
+use Rattle.paper.specs.Outcome.{Outcome, given, refused, Numbered, unless}
 use Rattle.paper.proofs.Outcomes.{given-injective, refused-injective, given-not-refused, unless-numbered, then-numbered}
-use Rattle.text.specs.Reading.{signedNumber}
-use Rattle.text.specs.Writing.{Written, lengthOutcome}
-use Rattle.text.specs.declared.LengthAnswer.{LengthAnswer}
-use Rattle.text.proofs.OneOutcome.{one-write}
-use Rattle.text.proofs.Decimals.{signed-numbered}
 use Rattle.calendar.specs.Dates.{isDate}
 use Rattle.calendar.specs.declared.Date.{Date}
 use Rattle.calendar.specs.declared.DateAnswer.{DateAnswer}
 use Rattle.calendar.proofs.OneOutcome.{same-date-answer}
-use Rattle.time_period.specs.Periods.{periodOutcome, frequencyOutcome, unitOf, numberPart, periodOf, periodText, frequencyOf, ReadPromise, FrequencyPromise}
+use Rattle.time_period.specs.Periods.{periodOutcome, frequencyOutcome, frequencyOf, FrequencyPromise}
 use Rattle.time_period.specs.Steps.{Holidays, absent, businessStep, unitStep, stepped, isLeast, inverseOf, served, accepted, judgedStep, addTo, subFrom, InversePromise, AddPromise, SubPromise}
 use Rattle.time_period.specs.declared.TimePeriodUnit.{TimePeriodUnit}
 use Rattle.time_period.specs.declared.TimePeriodUnit.the-variants.{Daily, BusinessDaily, Weekly, Monthly, Annual}
@@ -43,13 +35,6 @@ same-frequency-answer (frequency-answer.Frequency a) (frequency-answer.Refused n
 same-frequency-answer (frequency-answer.Refused m) (frequency-answer.Frequency b) e = absurd (given-not-refused (sym e))
 same-frequency-answer (frequency-answer.Refused m) (frequency-answer.Refused n) e = ap frequency-answer.Refused (refused-injective e)
 
-pub one-read : (t : List ℕ) (r s : PeriodAnswer) → ReadPromise t r → ReadPromise t s → r ≡ s
-one-read t r s p q = same-period-answer r s (p ∙ sym q)
-
--- the answer and the bytes
-pub one-written : (p : TimePeriod) (d e f : List ℕ) (r s : LengthAnswer) → Written d e (periodText p) (lengthOutcome r) → Written d f (periodText p) (lengthOutcome s) → (r ≡ s) × (e ≡ f)
-one-written p d e f r s v w = one-write d e f (periodText p) r s v w
-
 module _ (p : TimePeriod) where
   pub one-frequency : (r s : FrequencyAnswer) → FrequencyPromise p r → FrequencyPromise p s → r ≡ s
   one-frequency r s v w = same-frequency-answer r s (v ∙ sym w)
@@ -65,27 +50,7 @@ module _ (p : TimePeriod) where
     pub one-sub : SubPromise p h t r → SubPromise p h t s → r ≡ s
     one-sub v w = same-date-answer r s (v ∙ sym w)
 
--- every refusal has its number
-unit-numbered : (b : ℕ) → Numbered (unitOf b)
-unfolding unitOf
-unit-numbered b = by (eqb b 68) (eqb b 66) (eqb b 87) (eqb b 77) (eqb b 89)
-  where
-    by : (d w m y z : Bool) → Numbered (pick d (given Daily) (pick w (given BusinessDaily) (pick m (given Weekly) (pick y (given Monthly) (pick z (given Annual) (refused 3))))))
-    by true w m y z = omega arith
-    by false true m y z = omega arith
-    by false false true y z = omega arith
-    by false false false true z = omega arith
-    by false false false false true = omega arith
-    by false false false false false = omega arith
-
-pub read-numbered : (s : List ℕ) → Numbered (periodOf s)
-unfolding periodOf numberPart
-read-numbered s =
-    unless-numbered (leb 2 (length s)) 2 _ (omega arith)
-    (then-numbered (unitOf (getD s (length s - 1) 0)) (numberPart (take (length s - 1) s)) (unit-numbered _)
-    (λ u. then-numbered (signedNumber 4 (take (length s - 1) s)) (λ n. given (record { num = n; unit = u })) (signed-numbered 4 _ (omega arith)) (λ n. omega arith)))
-
--- what is refused with one number only
+-- every refusal has its number; what is refused with one number only
 numbered-by : {A : Type 0} (n : ℕ) → 0 < n → (o : Outcome A) → ((m : ℕ) → o ≡ refused m → m ≡ n) → Numbered o
 numbered-by n h (given a) k = omega arith
 numbered-by n h (refused m) k = let e = k m refl in omega arith

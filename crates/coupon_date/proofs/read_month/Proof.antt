@@ -5,7 +5,7 @@ use mathlib.Core.Path.{_≡_, sym, _∙_, ap}
 use lib.Seq.{length-take-le}
 use borrow.Author.Needs.{needs}
 use Rattle.paper.specs.Outcome.{Outcome, given, andThen}
-use Rattle.text.specs.Reading.{numberOutcome, unsignedNumber}
+use Rattle.reading.specs.Reading.{numberOutcome, unsignedNumber}
 use Rattle.coupon_date.specs.Coupons.{couponDate, upToDot, monthPart}
 use Rattle.coupon_date.proofs.read_month.Statement.{statement}
 use Rattle.coupon_date.proofs.read_month.Tie as tie

@@ -1,6 +1,7 @@
 -- `packed_note::note_with` meets its contract: each part is what its bits are.
 -- Assumes nothing.
 use Rattle.packed_note.proofs.Numbers.{no-nan}
+use lib.Ieee.{binary64, ofBits}
 use borrow.Author.Needs.{needs}
 use Rattle.packed_note.proofs.note_with.Statement.{statement}
 use Rattle.packed_note.proofs.note_with.Tie as tie
@@ -21,7 +22,21 @@ currency-in-requires : tie.Need-currency-in-requires
 currency-in-requires c κs = search needs
 
 returns : tie.Need-returns
-returns c = cc (c .before .before .before .before .number-in .ensures, c .before .before .before .period-in .ensures, c .before .before .rule-of-code .ensures, c .currency-in .ensures)
+returns c =
+    let b = c .before .before .before .before in
+    let a = b .before .before .before .before .before .before .args in
+    λ i. record {
+      number = b .number-in .ensures i;
+      «issue_date» = a .raw .issue;
+      maturity = a .raw .maturity;
+      «coupon_date» = a .raw .coupon;
+      period = c .before .before .before .period-in .ensures i;
+      «day_count_convention» = a .convention;
+      «business_day_rule» = c .before .before .rule-of-code .ensures i;
+      denomination = a .raw .denomination;
+      rate = ofBits binary64 (a .raw .rate);
+      currency = c .currency-in .ensures i;
+    }
 
 pub note-with-spec : {M : Type 1} → statement M
 note-with-spec =

@@ -11,7 +11,7 @@ narrow-field-requires-2 : tie.Need-narrow-field-requires-2
 narrow-field-requires-2 c κs = search needs
 
 returns : tie.Need-returns
-returns c = cc (c .before .narrow-field .ensures .0, c .narrow-field2 .ensures .0)
+returns c = λ i. record { day = c .before .narrow-field .ensures .0 i; month = c .narrow-field2 .ensures .0 i }
 
 pub read-coupon-spec : {M : Type 1} → statement M
 read-coupon-spec = tie.close (tie.spec narrow-field-requires narrow-field-requires-2 returns)

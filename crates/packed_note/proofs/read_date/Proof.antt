@@ -20,7 +20,7 @@ narrow-field-requires-3 : tie.Need-narrow-field-requires-3
 narrow-field-requires-3 c κs = search needs
 
 returns : tie.Need-returns
-returns c = cc (c .before .before .narrow-field .ensures .0, c .before .narrow-field2 .ensures .0, c .narrow-field3 .ensures .0)
+returns c = λ i. record { year = c .before .before .narrow-field .ensures .0 i; month = c .before .narrow-field2 .ensures .0 i; day = c .narrow-field3 .ensures .0 i }
 
 pub read-date-spec : {M : Type 1} → statement M
 read-date-spec =

@@ -14,7 +14,7 @@ narrow-field-requires-3 : tie.Need-narrow-field-requires-3
 narrow-field-requires-3 c κs = search needs
 
 returns : tie.Need-returns
-returns c = (cc (c .before .before .narrow-field .ensures .0, c .before .narrow-field2 .ensures .0, c .narrow-field3 .ensures .0), (c .before .before .narrow-field .ensures .1, c .before .narrow-field2 .ensures .1, c .narrow-field3 .ensures .1))
+returns c = (λ i. record { first = c .before .before .narrow-field .ensures .0 i; second = c .before .narrow-field2 .ensures .0 i; third = c .narrow-field3 .ensures .0 i }, (c .before .before .narrow-field .ensures .1, c .before .narrow-field2 .ensures .1, c .narrow-field3 .ensures .1))
 
 pub read-letters-spec : {M : Type 1} → statement M
 read-letters-spec =

@@ -39,7 +39,21 @@ returns : tie.Need-returns
 unfolding rawOf
 returns c =
     let b = c .before .before .before .before in
-    (cc (b .before .before .before .before .before .narrow-field .ensures .0, b .before .before .before .before .read-field .ensures, b .before .before .before .read-date .ensures, b .before .before .read-date2 .ensures, b .before .read-coupon .ensures, b .read-terms .ensures .0, c .before .before .before .narrow-field2 .ensures .0, c .before .before .read-rate .ensures .0, c .before .read-letters .ensures .0, c .narrow-field3 .ensures .0), (b .read-terms .ensures .1, c .before .read-letters .ensures .1, c .before .before .read-rate .ensures .1))
+    let a = b .before .before .before in (
+      λ i. record {
+        count = a .before .before .narrow-field .ensures .0 i;
+        digits = a .before .read-field .ensures i;
+        issue = a .read-date .ensures i;
+        maturity = b .before .before .read-date2 .ensures i;
+        coupon = b .before .read-coupon .ensures i;
+        terms = b .read-terms .ensures .0 i;
+        denomination = c .before .before .before .narrow-field2 .ensures .0 i;
+        rate = c .before .before .read-rate .ensures .0 i;
+        letters = c .before .read-letters .ensures .0 i;
+        spare = c .narrow-field3 .ensures .0 i;
+      },
+      (b .read-terms .ensures .1, c .before .read-letters .ensures .1, c .before .before .read-rate .ensures .1),
+    )
 
 pub read-raw-spec : {M : Type 1} → statement M
 read-raw-spec =

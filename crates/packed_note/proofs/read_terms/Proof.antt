@@ -17,7 +17,7 @@ narrow-field-requires-4 : tie.Need-narrow-field-requires-4
 narrow-field-requires-4 c κs = search needs
 
 returns : tie.Need-returns
-returns c = (cc (c .before .before .before .narrow-field .ensures .0, c .before .before .narrow-field2 .ensures .0, c .before .narrow-field3 .ensures .0, c .narrow-field4 .ensures .0), c .before .before .narrow-field2 .ensures .1)
+returns c = (λ i. record { unit = c .before .before .before .narrow-field .ensures .0 i; number = c .before .before .narrow-field2 .ensures .0 i; convention = c .before .narrow-field3 .ensures .0 i; adjustment = c .narrow-field4 .ensures .0 i }, c .before .before .narrow-field2 .ensures .1)
 
 pub read-terms-spec : {M : Type 1} → statement M
 read-terms-spec =

@@ -1,0 +1,48 @@
+-- No second answer satisfies an entry point's promise; and a refusal's number is never 0.
+-- Assumes nothing.
+use Prim.Native.Nat.{ℕ, _-_}
+use mathlib.Core.Path.{_≡_, sym, _∙_}
+use mathlib.Core.Bool.{Bool, true, false}
+use mathlib.Core.List.{List}
+use native.Mathlib.Omega.{arith}
+use lib.Dec.{leb, eqb}
+use lib.ListN.{length, take, getD}
+use Rattle.paper.specs.Outcome.{given, refused, Numbered, pick}
+use Rattle.paper.proofs.Outcomes.{unless-numbered, then-numbered}
+use Rattle.reading.specs.Reading.{signedNumber}
+use Rattle.reading.proofs.Decimals.{signed-numbered}
+use Rattle.text.specs.Writing.{Written, lengthOutcome}
+use Rattle.text.specs.declared.LengthAnswer.{LengthAnswer}
+use Rattle.text.proofs.OneOutcome.{one-write}
+use Rattle.time_period.specs.declared.TimePeriodUnit.the-variants.{Daily, BusinessDaily, Weekly, Monthly, Annual}
+use Rattle.time_period.specs.declared.TimePeriod.{TimePeriod}
+use Rattle.time_period.specs.declared.PeriodAnswer.{PeriodAnswer}
+use Rattle.time_period.proofs.OneOutcome.{same-period-answer}
+use Rattle.period_text.specs.PeriodTexts.{unitOf, numberPart, periodOf, periodText, ReadPromise}
+
+pub one-read : (t : List ℕ) (r s : PeriodAnswer) → ReadPromise t r → ReadPromise t s → r ≡ s
+one-read t r s p q = same-period-answer r s (p ∙ sym q)
+
+-- the answer and the bytes
+pub one-written : (p : TimePeriod) (d e f : List ℕ) (r s : LengthAnswer) → Written d e (periodText p) (lengthOutcome r) → Written d f (periodText p) (lengthOutcome s) → (r ≡ s) × (e ≡ f)
+one-written p d e f r s v w = one-write d e f (periodText p) r s v w
+
+-- every refusal has its number
+unit-numbered : (b : ℕ) → Numbered (unitOf b)
+unfolding unitOf
+unit-numbered b = by (eqb b 68) (eqb b 66) (eqb b 87) (eqb b 77) (eqb b 89)
+  where
+    by : (d w m y z : Bool) → Numbered (pick d (given Daily) (pick w (given BusinessDaily) (pick m (given Weekly) (pick y (given Monthly) (pick z (given Annual) (refused 3))))))
+    by true w m y z = omega arith
+    by false true m y z = omega arith
+    by false false true y z = omega arith
+    by false false false true z = omega arith
+    by false false false false true = omega arith
+    by false false false false false = omega arith
+
+pub read-numbered : (s : List ℕ) → Numbered (periodOf s)
+unfolding periodOf numberPart
+read-numbered s =
+    unless-numbered (leb 2 (length s)) 2 _ (omega arith)
+    (then-numbered (unitOf (getD s (length s - 1) 0)) (numberPart (take (length s - 1) s)) (unit-numbered _)
+    (λ u. then-numbered (signedNumber 4 (take (length s - 1) s)) (λ n. given (record { num = n; unit = u })) (signed-numbered 4 _ (omega arith)) (λ n. omega arith)))

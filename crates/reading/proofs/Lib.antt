@@ -1,0 +1,4 @@
+pub mod Decimals
+pub mod Signs
+pub mod OneOutcome
+pub mod Examples

@@ -120,29 +120,6 @@ pub fn turn(note: Note, position: f64, table: &[u32], due: Due) -> Step
     }
 }
 
-// Inner: how many flows there are, or the first refusal.
-pub fn count(note: Note, position: f64, table: &[u32]) -> FlowsAnswer
-    requires { ⌜ Judged note position (now table) ⌝ }
-    ensures { λ r. ⌜ flowsOutcome r ≡ counted (noteFlows note position (now (table .entry))) ⌝ }
-{
-    let mut k: usize = 0;
-    let mut due = Due::First;
-    loop {
-        match turn(note, position, table, due) {
-            Step::Pay(_, _, next) => {
-                due = next;
-                k += 1;
-            }
-            Step::Stop(n) => {
-                return FlowsAnswer::Refused(n);
-            }
-            Step::End => {
-                return FlowsAnswer::Flows(k);
-            }
-        }
-    }
-}
-
 // Keeps a day, or an amount, at a place where there is one.
 fn keep_day(days: &mut [u32], k: usize, day: u32)
     ensures { λ _. ⌜ now (days .exit) ≡ set (now (days .entry)) k day ⌝ }
@@ -192,6 +169,16 @@ pub fn collect(
     }
 }
 
+// Inner: how many flows there are, or the first refusal; none is kept.
+pub fn count(note: Note, position: f64, table: &[u32]) -> FlowsAnswer
+    requires { ⌜ Judged note position (now table) ⌝ }
+    ensures { λ r. ⌜ flowsOutcome r ≡ counted (noteFlows note position (now (table .entry))) ⌝ }
+{
+    let mut days = [0u32; 0];
+    let mut amounts = [0.0f64; 0];
+    collect(note, position, table, &mut days, &mut amounts)
+}
+
 // The first n days and amounts, in front of others.
 fn copy(n: usize, kept_days: &[u32], kept_amounts: &[f64], days: &mut [u32], amounts: &mut [f64])
     requires { ⌜ (n ≤ length (now «kept_days»)) × (n ≤ length (now «kept_amounts»)) ⌝ }
@@ -199,11 +186,11 @@ fn copy(n: usize, kept_days: &[u32], kept_amounts: &[f64], days: &mut [u32], amo
     ensures { λ _. ⌜ now (days .exit) ≡ take n (now («kept_days» .entry)) ++ drop n (now (days .entry)) ⌝ }
     ensures { λ _. ⌜ now (amounts .exit) ≡ take n (now («kept_amounts» .entry)) ++ drop n (now (amounts .entry)) ⌝ }
 {
-    let mut k: usize = 0;
-    while k < n {
-        days[k] = kept_days[k];
-        amounts[k] = kept_amounts[k];
-        k += 1;
+    let mut i: usize = 0;
+    while i < n {
+        days[i] = kept_days[i];
+        amounts[i] = kept_amounts[i];
+        i += 1;
     }
 }
 

@@ -1,4 +1,4 @@
--- `rollout::copy` meets its contract. The loop's invariant: k places are copied and the others are as they were. The measure: how many are left.
+-- `rollout::copy` meets its contract. The loop's invariant: i places are copied and the others are as they were. The measure: how many are left.
 -- Assumes nothing.
 use Prim.Native.Nat.{ℕ, _-_, _≤_, _<_}
 use mathlib.Core.Path.{_≡_}
@@ -10,29 +10,29 @@ use Rattle.rollout.proofs.copy.Statement.{statement}
 use Rattle.rollout.proofs.copy.Tie as tie
 
 abbrev Inv-loop : tie.InvT-loop
-Inv-loop n kept-days kept-amounts days₀ amounts₀ k₀ days amounts k = (k ≤ n) × (Filled kept-days days₀ k (drop k kept-days) days) × (Filled kept-amounts amounts₀ k (drop k kept-amounts) amounts)
+Inv-loop n kept-days kept-amounts days₀ amounts₀ i₀ days amounts i = (i ≤ n) × (Filled kept-days days₀ i (drop i kept-days) days) × (Filled kept-amounts amounts₀ i (drop i kept-amounts) amounts)
 
 abbrev μ-loop : tie.MeasureT-loop
-μ-loop n kept-days kept-amounts days₀ amounts₀ k₀ days amounts k = n - k
+μ-loop n kept-days kept-amounts days₀ amounts₀ i₀ days amounts i = n - i
 
 loop-holds : tie.Need-loop-holds Inv-loop μ-loop
 loop-holds c = (omega arith, filled-none _ _, filled-none _ _)
 
--- k lies in all four lists
+-- i lies in all four lists
 module _ (c : tie.In-loop Inv-loop μ-loop) where
-  abbrev k-at : ℕ
-  k-at = c .before .loop .k
+  abbrev i-at : ℕ
+  i-at = c .before .loop .i
 
-  in-kept-days : k-at < length (c .before .before .args .kept-days .now)
+  in-kept-days : i-at < length (c .before .before .args .kept-days .now)
   in-kept-days = omega (arith, c .loop-test .taken, c .before .before .pre .0)
 
-  in-kept-amounts : k-at < length (c .before .before .args .kept-amounts .now)
+  in-kept-amounts : i-at < length (c .before .before .args .kept-amounts .now)
   in-kept-amounts = omega (arith, c .loop-test .taken, c .before .before .pre .0)
 
-  in-days : k-at < length (c .before .loop .days)
+  in-days : i-at < length (c .before .loop .days)
   in-days = omega (arith, c .loop-test .taken, c .before .before .pre .1, c .before .loop .inv .1 .same-length)
 
-  in-amounts : k-at < length (c .before .loop .amounts)
+  in-amounts : i-at < length (c .before .loop .amounts)
   in-amounts = omega (arith, c .loop-test .taken, c .before .before .pre .1, c .before .loop .inv .2 .same-length)
 
 mul-days : tie.Need-mul-days Inv-loop μ-loop
@@ -59,8 +59,8 @@ mul-amounts-2 c = let h = in-amounts (c .before .before) in omega arith
 slice-write-amounts : tie.Need-slice-write-amounts Inv-loop μ-loop
 slice-write-amounts c = in-amounts (c .before .before)
 
-add-k : tie.Need-add-k Inv-loop μ-loop
-add-k c = let h = in-days (c .before .before) in omega arith
+add-i : tie.Need-add-i Inv-loop μ-loop
+add-i c = let h = in-days (c .before .before) in omega arith
 
 loop-less : tie.Need-loop-less Inv-loop μ-loop
 loop-less c = let h = c .before .before .loop-test .taken in omega arith
@@ -69,7 +69,7 @@ loop-again : tie.Need-loop-again Inv-loop μ-loop
 loop-again c =
     let i = c .before .before in
     let l = i .before .loop in
-    (omega (arith, i .loop-test .taken), filled-next _ _ _ (l .k) 0 (l .days) (in-kept-days i) (in-days i) (l .inv .1), filled-next _ _ _ (l .k) nan (l .amounts) (in-kept-amounts i) (in-amounts i) (l .inv .2))
+    (omega (arith, i .loop-test .taken), filled-next _ _ _ (l .i) 0 (l .days) (in-kept-days i) (in-days i) (l .inv .1), filled-next _ _ _ (l .i) nan (l .amounts) (in-kept-amounts i) (in-amounts i) (l .inv .2))
 
 same-length : tie.Need-same-length Inv-loop μ-loop
 same-length c = c .before .loop .inv .1 .same-length
@@ -80,8 +80,8 @@ same-length-2 c = c .before .loop .inv .2 .same-length
 returns : tie.Need-returns Inv-loop μ-loop
 returns c =
     let l = c .before .loop in
-    let e : l .k ≡ c .before .before .args .n = omega (arith, l .inv .0, c .loop-test .left) in
-    (rw e at (filled-part _ _ (l .k) _ (l .days) (omega (arith, c .before .before .pre .1, l .inv .1 .same-length)) (l .inv .1)), rw e at (filled-part _ _ (l .k) _ (l .amounts) (omega (arith, c .before .before .pre .1, l .inv .2 .same-length)) (l .inv .2)))
+    let e : l .i ≡ c .before .before .args .n = omega (arith, l .inv .0, c .loop-test .left) in
+    (rw e at (filled-part _ _ (l .i) _ (l .days) (omega (arith, c .before .before .pre .1, l .inv .1 .same-length)) (l .inv .1)), rw e at (filled-part _ _ (l .i) _ (l .amounts) (omega (arith, c .before .before .pre .1, l .inv .2 .same-length)) (l .inv .2)))
 
 pub copy-spec : {M : Type 1} → statement M
 copy-spec =
@@ -98,7 +98,7 @@ copy-spec =
     shared-slice-read-amounts
     mul-amounts-2
     slice-write-amounts
-    add-k
+    add-i
     loop-less
     loop-again
     same-length

@@ -6,14 +6,14 @@ use mathlib.Core.Bool.{Bool}
 use mathlib.Core.Logic.{_⊎_, ⊎-elim}
 use mathlib.Core.List.{List, [], _∷_, _++_, map}
 use native.Mathlib.Omega.{arith}
-use lib.ListN.{length, drop, set}
+use lib.ListN.{length, take, drop, set, length-set}
 use lib.Ieee.{Float}
 use denote.Enum.Declared.{tagOf, declared}
 use borrow.Author.Tests.{le-leb, lt-leb}
 use Rattle.paper.specs.Outcome.{Outcome, given, refused, andThen}
 use Rattle.paper.proofs.Outcomes.{given-injective, given-not-refused}
 use Rattle.room.specs.Room.{fitting, counted, roomAfter}
-use Rattle.room.proofs.Filling.{Filled, filled-none, filled-more, filled-all}
+use Rattle.room.proofs.Filling.{Filled, filled-none, filled-more, filled-all, room-copied}
 use Rattle.cash_flow.specs.declared.CashFlow.{CashFlow}
 use Rattle.cash_flow.specs.declared.FlowsAnswer.the-variants as flows-answer
 use Rattle.holidays.specs.Table.{isTable}
@@ -21,7 +21,7 @@ use Rattle.bond.specs.Notes.{isPosition, noteChecks}
 use Rattle.bond.specs.declared.Note.{Note}
 use Rattle.bond.proofs.Ends.{passed}
 use Rattle.rollout.specs.Rollout.{followed, noteFlows, cashFlows, fitted, dayOf, amountOf, RolloutPromise}
-use Rattle.rollout.specs.Turns.{Judged, flowsDue, Dated, most, Pays, Turned}
+use Rattle.rollout.specs.Turns.{Judged, flowsDue, Dated, most, Pays, Turned, Kept}
 use Rattle.rollout.specs.declared.Due.{Due}
 use Rattle.rollout.specs.declared.Due.the-variants.{First}
 use Rattle.rollout.specs.declared.Step.{Step}
@@ -55,6 +55,11 @@ none-left : (k m : ℕ) (o : Outcome (List CashFlow)) → tally k o ≡ given m 
 none-left k m (given []) e h = refl
 none-left k m (given (x ∷ l)) e h = let z : k + suc (length l) ≡ m = given-injective e in absurd (omega arith)
 none-left k m (refused n) e h = refl
+
+-- what is counted with one more is past that one
+one-more : (k m : ℕ) (o : Outcome (List CashFlow)) → tally (k + 1) o ≡ given m → k < m
+one-more k m (given l) e = let z : k + 1 + length l ≡ m = given-injective e in omega arith
+one-more k m (refused n) e = absurd (given-not-refused (sym e))
 
 -- what the room holds afterwards, by the flows and their count
 after-is : {B : Type 0} (part : CashFlow → B) (o : Outcome (List CashFlow)) (m : ℕ) (old : List B) → counted o ≡ given m → map part (flowsOf o) ++ drop m old ≡ roomAfter part o old
@@ -133,6 +138,38 @@ module _ (n : Note) (position : Float) (table : List ℕ) where
             rw e at (filled-all _ _ k amounts (rw (ap (map amountOf) f) at (w .amounts-at))) ∙ after-is amountOf (noteFlows n position table) m amounts₀ c,
           )
 
+  -- ---- the first pass, which keeps the flows where there are places for all
+
+  module _ (days₀ : List ℕ) (amounts₀ : List Float) where
+    pub record Collecting (days : List ℕ) (amounts : List Float) (k : ℕ) (due : Due) : Type 0 where
+      pub counting : Counting k due
+      pub as-many-days : length days ≡ length days₀
+      pub as-many-amounts : length amounts ≡ length amounts₀
+      pub writing : (m : ℕ) → counted (noteFlows n position table) ≡ given m → m ≤ length days₀ → m ≤ length amounts₀ → Writing m days₀ amounts₀ days amounts k due
+
+    pub collecting-none : Collecting days₀ amounts₀ 0 First
+    collecting-none = record { counting = counting-none; as-many-days = refl; as-many-amounts = refl; writing = λ m c d a. writing-none m days₀ amounts₀ c }
+
+    module _ {days : List ℕ} {amounts : List Float} {k : ℕ} {due : Due} (c : Collecting days amounts k due) where
+      pub collecting-more : {day : ℕ} {x : CashFlow} {next : Due} {days′ : List ℕ} {amounts′ : List Float} → Pays n position table due x next × (day ≡ dayOf x) → days′ ≡ set days k day → amounts′ ≡ set amounts k (amountOf x) → Collecting days′ amounts′ (k + 1) next
+      collecting-more {day} {x} {next} {days′} {amounts′} (p, d) ed ea = rw (ed, ea) record {
+        counting = counting-more (c .counting) p;
+        as-many-days = length-set days k day ∙ c .as-many-days;
+        as-many-amounts = length-set amounts k (amountOf x) ∙ c .as-many-amounts;
+        writing = λ m e ld la.
+            let w = c .writing m e ld la in
+            let h : k < m = one-more k m (flowsDue n position table next) (sym (tally-more k x (flowsDue n position table next)) ∙ sym (ap (tally k) (p .left)) ∙ w .whole) in
+            writing-more m days₀ amounts₀ w (p, d) h (omega (arith, c .as-many-days)) (omega (arith, c .as-many-amounts));
+      }
+
+      pub collecting-stop : {j : ℕ} → flowsDue n position table due ≡ refused j → Kept n position table days₀ amounts₀ days amounts
+      collecting-stop e = record { hold = λ m g d a. absurd (given-not-refused (sym g ∙ sym (counting-stop (c .counting) e))) }
+
+      pub collecting-end : flowsDue n position table due ≡ given [] → Kept n position table days₀ amounts₀ days amounts
+      collecting-end e = record {
+        hold = λ m g d a. writing-done m days₀ amounts₀ (c .writing m g d a) g (let z : m ≡ k = given-injective (sym g ∙ sym (counting-end (c .counting) e)) in omega arith);
+      }
+
   -- ---- the answer
 
   -- what was judged is what is rolled out
@@ -179,6 +216,14 @@ module _ (n : Note) (position : Float) (table : List ℕ) where
             days-are = d ∙ sym (ap (λ (o : Outcome (List CashFlow)). roomAfter dayOf o days) e);
             amounts-are = a ∙ sym (ap (λ (o : Outcome (List CashFlow)). roomAfter amountOf o amounts) e);
           }
+
+      -- the kept flows, copied
+      pub fill-copied : (m : ℕ) (empty-days kept-days days′ : List ℕ) (empty-amounts kept-amounts amounts′ : List Float) → given m ≡ counted (noteFlows n position table) → m ≤ length days → m ≤ length amounts → Kept n position table empty-days empty-amounts kept-days kept-amounts → m ≤ length empty-days → m ≤ length empty-amounts → days′ ≡ take m kept-days ++ drop m days → amounts′ ≡ take m kept-amounts ++ drop m amounts → RolloutPromise n position table days amounts (flows-answer.Flows m) days′ amounts′
+      fill-copied m empty-days kept-days days′ empty-amounts kept-amounts amounts′ c hd ha k ed ea d a =
+          let h = k .hold m (sym c) ed ea in
+          fill-done m days′ amounts′ c hd ha
+          (d ∙ ap (λ (l : List ℕ). take m l ++ drop m days) (h .0) ∙ room-copied dayOf (noteFlows n position table) m empty-days days (sym c))
+          (a ∙ ap (λ (l : List Float). take m l ++ drop m amounts) (h .1) ∙ room-copied amountOf (noteFlows n position table) m empty-amounts amounts (sym c))
 
     -- the note's refusals
     pub note-refused : (p t : Bool) (k : ℕ) → p ≡ isPosition position → t ≡ isTable table → noteChecks p t n ≡ refused k → RolloutPromise n position table days amounts (flows-answer.Refused k) days amounts

@@ -1,17 +1,19 @@
 -- What the inner functions hand each other, one flow at a time; no promise of an entry point rests on this.
 -- Assumes nothing.
-use Prim.Native.Nat.{ℕ, _-_, _<_}
+use Prim.Native.Nat.{ℕ, _-_, _≤_, _<_}
 use mathlib.Core.Path.{_≡_}
 use mathlib.Core.Bool.{true}
 use mathlib.Core.List.{List, []}
+use lib.ListN.{length}
 use lib.Ieee.{Float}
 use Rattle.paper.specs.Outcome.{Outcome, given, refused}
+use Rattle.room.specs.Room.{counted, roomAfter}
 use Rattle.calendar.specs.Dates.{isDate, dayNumber}
 use Rattle.holidays.specs.Table.{isTable}
 use Rattle.cash_flow.specs.declared.CashFlow.{CashFlow}
 use Rattle.bond.specs.Notes.{isPosition, noteChecks}
 use Rattle.bond.specs.declared.Note.{Note}
-use Rattle.rollout.specs.Rollout.{followed, flowsAfter, noteFlows, dayOf}
+use Rattle.rollout.specs.Rollout.{followed, flowsAfter, noteFlows, dayOf, amountOf}
 use Rattle.rollout.specs.declared.Due.{Due}
 use Rattle.rollout.specs.declared.Due.the-variants.{First, After, Nothing}
 use Rattle.rollout.specs.declared.Step.{Step}
@@ -53,3 +55,7 @@ abbrev pub Turned : Note → Float → List ℕ → Due → Step → Type 0
 Turned n position table due (Pay day x next) = Pays n position table due x next × (day ≡ dayOf x)
 Turned n position table due (Stop k) = flowsDue n position table due ≡ refused k
 Turned n position table due End = flowsDue n position table due ≡ given []
+
+-- where all flows are given and both lists have a place for each, the lists hold their days and amounts
+pub record Kept (n : Note) (position : Float) (table days : List ℕ) (amounts : List Float) (days′ : List ℕ) (amounts′ : List Float) : Type 0 where
+  pub hold : (m : ℕ) → counted (noteFlows n position table) ≡ given m → m ≤ length days → m ≤ length amounts → (days′ ≡ roomAfter dayOf (noteFlows n position table) days) × (amounts′ ≡ roomAfter amountOf (noteFlows n position table) amounts)

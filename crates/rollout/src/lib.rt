@@ -2,7 +2,8 @@
 ghost use mathlib.Core.Path.{_≡_};
 ghost use mathlib.Core.Bool.{true};
 ghost use Prim.Native.Nat.{_≤_};
-ghost use lib.ListN.{length};
+ghost use mathlib.Core.List.{_++_};
+ghost use lib.ListN.{length, take, drop, set};
 ghost use Rattle.paper.specs.Outcome.{given};
 ghost use Rattle.room.specs.Room.{counted, roomAfter};
 ghost use Rattle.calendar.specs.Dates.{isDate, isBefore};
@@ -10,7 +11,7 @@ ghost use Rattle.holidays.specs.Table.{ascending};
 ghost use Rattle.day_fraction.specs.Fractions.{Span};
 ghost use Rattle.cash_flow.specs.Flows.{flowsOutcome};
 ghost use Rattle.rollout.specs.Rollout.{paid, couponFlow, noteFlows, dayOf, amountOf, RolloutPromise};
-ghost use Rattle.rollout.specs.Turns.{Judged, stepOf, Dated, Turned};
+ghost use Rattle.rollout.specs.Turns.{Judged, stepOf, Dated, Turned, Kept};
 use bond::Note;
 use bond::NoteAnswer;
 use calendar::Date;
@@ -21,6 +22,9 @@ use day_count_conv::Extras;
 use day_count_conv::RollDate;
 use day_count_conv::RollPeriod;
 use day_count_conv::YearFraction;
+
+// How many flows the first pass keeps for the second: as many as a listing has places, for there is no heap to keep more.
+const KEPT: usize = 2000;
 
 // What is due: the first coupon, what follows a coupon that ended on a date, or nothing more.
 pub enum Due {
@@ -116,16 +120,42 @@ pub fn turn(note: Note, position: f64, table: &[u32], due: Due) -> Step
     }
 }
 
-// Inner: how many flows there are, or the first refusal.
-pub fn count(note: Note, position: f64, table: &[u32]) -> FlowsAnswer
+// Keeps a day, or an amount, at a place where there is one.
+fn keep_day(days: &mut [u32], k: usize, day: u32)
+    ensures { λ _. ⌜ now (days .exit) ≡ set (now (days .entry)) k day ⌝ }
+{
+    if k < days.len() {
+        days[k] = day;
+    }
+}
+
+fn keep_amount(amounts: &mut [f64], k: usize, amount: f64)
+    ensures { λ _. ⌜ now (amounts .exit) ≡ set (now (amounts .entry)) k amount ⌝ }
+{
+    if k < amounts.len() {
+        amounts[k] = amount;
+    }
+}
+
+// Inner: how many flows there are, or the first refusal; the days and amounts are kept, where there are places for all.
+pub fn collect(
+    note: Note,
+    position: f64,
+    table: &[u32],
+    days: &mut [u32],
+    amounts: &mut [f64],
+) -> FlowsAnswer
     requires { ⌜ Judged note position (now table) ⌝ }
     ensures { λ r. ⌜ flowsOutcome r ≡ counted (noteFlows note position (now (table .entry))) ⌝ }
+    ensures { λ _. ⌜ Kept note position (now (table .entry)) (now (days .entry)) (now (amounts .entry)) (now (days .exit)) (now (amounts .exit)) ⌝ }
 {
     let mut k: usize = 0;
     let mut due = Due::First;
     loop {
         match turn(note, position, table, due) {
-            Step::Pay(_, _, next) => {
+            Step::Pay(day, flow, next) => {
+                keep_day(days, k, day);
+                keep_amount(amounts, k, flow.amount);
                 due = next;
                 k += 1;
             }
@@ -139,7 +169,32 @@ pub fn count(note: Note, position: f64, table: &[u32]) -> FlowsAnswer
     }
 }
 
-// Writes the flows, which are n; a turn that does not pay is proved impossible.
+// Inner: how many flows there are, or the first refusal; none is kept.
+pub fn count(note: Note, position: f64, table: &[u32]) -> FlowsAnswer
+    requires { ⌜ Judged note position (now table) ⌝ }
+    ensures { λ r. ⌜ flowsOutcome r ≡ counted (noteFlows note position (now (table .entry))) ⌝ }
+{
+    let mut days = [0u32; 0];
+    let mut amounts = [0.0f64; 0];
+    collect(note, position, table, &mut days, &mut amounts)
+}
+
+// The first n days and amounts, in front of others.
+fn copy(n: usize, kept_days: &[u32], kept_amounts: &[f64], days: &mut [u32], amounts: &mut [f64])
+    requires { ⌜ (n ≤ length (now «kept_days»)) × (n ≤ length (now «kept_amounts»)) ⌝ }
+    requires { ⌜ (n ≤ length (now days)) × (n ≤ length (now amounts)) ⌝ }
+    ensures { λ _. ⌜ now (days .exit) ≡ take n (now («kept_days» .entry)) ++ drop n (now (days .entry)) ⌝ }
+    ensures { λ _. ⌜ now (amounts .exit) ≡ take n (now («kept_amounts» .entry)) ++ drop n (now (amounts .entry)) ⌝ }
+{
+    let mut i: usize = 0;
+    while i < n {
+        days[i] = kept_days[i];
+        amounts[i] = kept_amounts[i];
+        i += 1;
+    }
+}
+
+// Writes the flows, which are n and more than are kept, so that their turns are run again; a turn that does not pay is proved impossible.
 fn write(note: Note, position: f64, table: &[u32], n: usize, days: &mut [u32], amounts: &mut [f64])
     requires { ⌜ (Judged note position (now table)) × (counted (noteFlows note position (now table)) ≡ given n) ⌝ }
     requires { ⌜ (n ≤ length (now days)) × (n ≤ length (now amounts)) ⌝ }
@@ -170,13 +225,19 @@ fn fill(
     requires { ⌜ Judged note position (now table) ⌝ }
     ensures { λ r. ⌜ RolloutPromise note position (now (table .entry)) (now (days .entry)) (now (amounts .entry)) r (now (days .exit)) (now (amounts .exit)) ⌝ }
 {
-    match count(note, position, table) {
+    let mut kept_days = [0u32; KEPT];
+    let mut kept_amounts = [0.0f64; KEPT];
+    match collect(note, position, table, &mut kept_days, &mut kept_amounts) {
         FlowsAnswer::Flows(n) => {
             if days.len() < n {
                 return FlowsAnswer::Refused(paper::TOO_FEW_PLACES);
             }
             if amounts.len() < n {
                 return FlowsAnswer::Refused(paper::TOO_FEW_PLACES);
+            }
+            if n <= KEPT {
+                copy(n, &kept_days, &kept_amounts, days, amounts);
+                return FlowsAnswer::Flows(n);
             }
             write(note, position, table, n, days, amounts);
             FlowsAnswer::Flows(n)

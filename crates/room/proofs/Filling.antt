@@ -1,12 +1,15 @@
 -- A loop that fills a list from its front, over any kind of element.
 -- Assumes nothing.
-use mathlib.Core.Path.{_≡_, refl, sym, ap, _∙_}
-use mathlib.Core.List.{List, [], _∷_, _++_, append-nil}
-use Prim.Native.Nat.{ℕ, suc, _+_, _<_}
+use mathlib.Core.Path.{_≡_, refl, sym, ap, ap₂, _∙_, subst}
+use mathlib.Core.List.{List, [], _∷_, _++_, append-nil, map}
+use Prim.Native.Nat.{ℕ, suc, _+_, _≤_, _<_}
 use native.Mathlib.Omega.{arith}
 use native.Mathlib.Numerals.{add-one}
-use lib.ListN.{length, take, drop, set, length-set, take-append-drop}
-use lib.Seq.{take-suc-set, drop-set-lt, drop-drop, append-snoc}
+use lib.ListN.{length, take, drop, set, getD, length-set, length-map, take-append-drop}
+use lib.Seq.{take-suc-set, drop-set-lt, drop-drop, drop-cons, append-snoc, length-take-le, take-append-seam}
+use Rattle.paper.specs.Outcome.{Outcome, given, refused}
+use Rattle.paper.proofs.Outcomes.{given-injective, given-not-refused}
+use Rattle.room.specs.Room.{counted, roomAfter}
 
 -- k elements are written, what is to come is `left`, and the rest is as it was
 pub record Filled {A : Type 0} (whole old : List A) (k : ℕ) (left new : List A) : Type 0 where
@@ -30,3 +33,23 @@ module _ {A : Type 0} (whole old : List A) where
 
   pub filled-all : (k : ℕ) (new : List A) → Filled whole old k [] new → new ≡ whole ++ drop k old
   filled-all k new w = sym (take-append-drop k new) ∙ rw (w .back) (ap (λ (l : List A). l ++ drop k old) (sym (append-nil (take k new)) ∙ w .front))
+
+  -- a loop that copies: what is to come is the rest of the list it copies from
+  pub filled-next : (source : List A) (k : ℕ) (d : A) (new : List A) → k < length source → k < length new → Filled whole old k (drop k source) new → Filled whole old (k + 1) (drop (k + 1) source) (set new k (getD source k d))
+  filled-next source k d new h l w =
+      filled-more k (getD source k d) (drop (k + 1) source) new l (subst (λ (m : List A). Filled whole old k m new) (drop-cons source k d h ∙ ap (λ (j : ℕ). getD source k d ∷ drop j source) (sym (add-one k))) w)
+
+  -- and where it ends early, as many are copied
+  pub filled-part : (k : ℕ) (left new : List A) → k ≤ length new → Filled whole old k left new → new ≡ take k whole ++ drop k old
+  filled-part k left new h w = sym (take-append-drop k new) ∙ ap₂ _++_ (sym front ∙ ap (take k) (w .front)) (w .back)
+    where
+      front : take k (take k new ++ left) ≡ take k new
+      front = subst (λ (j : ℕ). take j (take k new ++ left) ≡ take k new) (length-take-le k new h) (take-append-seam (take k new) left)
+
+-- what stands in front of one room, copied in front of another
+pub room-copied : {A B : Type 0} (part : A → B) (o : Outcome (List A)) (m : ℕ) (kept old : List B) → counted o ≡ given m → take m (roomAfter part o kept) ++ drop m old ≡ roomAfter part o old
+room-copied part (given l) m kept old e = subst (λ (j : ℕ). take j (map part l ++ drop (length l) kept) ++ drop j old ≡ map part l ++ drop (length l) old) (given-injective e) (ap (λ (r : List _). r ++ drop (length l) old) front)
+  where
+    front : take (length l) (map part l ++ drop (length l) kept) ≡ map part l
+    front = subst (λ (j : ℕ). take j (map part l ++ drop (length l) kept) ≡ map part l) (length-map l part) (take-append-seam (map part l) (drop (length l) kept))
+room-copied part (refused n) m kept old e = absurd (given-not-refused (sym e))

@@ -6,7 +6,7 @@ use mathlib.Core.Bool.{Bool, true}
 use mathlib.Core.List.{List, [], _∷_, _++_}
 use native.Mathlib.Numerals.{add-one}
 use native.Mathlib.Omega.{arith}
-use borrow.Author.Tests.{leb-true}
+use borrow.Author.Tests.{le-leb, leb-true}
 use lib.Dec.{T, leb}
 use lib.Ieee.{Float, nan, binary64, fits}
 use lib.Ieee.Scale.{finite}
@@ -15,6 +15,7 @@ use lib.Seq.{drop-cons}
 use Rattle.paper.specs.Outcome.{Outcome, given, refused, andThen, pick}
 use Rattle.paper.proofs.Outcomes.{given-injective, refused-injective, given-not-refused, unless-given, then-given}
 use Rattle.text.specs.Writing.{decimalText, put, Wrote, Written, writtenLength, writtenBytes}
+use Rattle.text.proofs.Digits.{decimal-within}
 use Rattle.text.proofs.Writers.{written-fits, written-refused}
 use Rattle.text.proofs.Putting.{put-none, put-put, length-put}
 use Rattle.text.specs.declared.LengthAnswer.the-variants.{Length, Refused}
@@ -76,6 +77,9 @@ number-long n = length-append (decimalText n) (10 ∷ [])
 pub refusal-long : (n : ℕ) → length (refusedText n) ≡ 9 + length (decimalText n)
 unfolding refusedText
 refusal-long n = omega (arith, number-long n)
+
+pub refusal-short : (n : ℕ) → n < 4294967296 → length (refusedText n) ≤ 662000
+refusal-short n h = omega (arith, refusal-long n, decimal-within 10 n (omega arith) (omega arith))
 
 -- ---- lines one after the other
 
@@ -204,13 +208,17 @@ pub none-written : (o : Outcome (List ℕ)) (d : List ℕ) (k : ℕ) → given k
 none-written (given t) d k e h = let n : k ≡ length t = given-injective e in written-refused d t (omega arith)
 none-written (refused n) d k e h = absurd (given-not-refused e)
 
+pub lines-short : (o : Outcome (List ℕ)) (k : ℕ) → given k ≡ andThen o (λ t. given (length t)) → k ≤ 662000 → length (answerText o) ≤ 662000
+lines-short (given t) k e h = let n : k ≡ length t = given-injective e in omega arith
+lines-short (refused n) k e h = absurd (given-not-refused e)
+
 pub refusal-is : (o : Outcome (List ℕ)) (n : ℕ) → refused n ≡ andThen o (λ t. given (length t)) → refusedText n ≡ answerText o
 refusal-is (given t) n e = absurd (given-not-refused (sym e))
 refusal-is (refused m) n e = ap refusedText (refused-injective e)
 
 -- the same text by another name
-pub written-is : (d e s t : List ℕ) (o : Outcome ℕ) → s ≡ t → Written d e s o → Written d e t o
-written-is d e s t o p w = subst (λ (x : List ℕ). Written d e x o) p w
+pub written-is : (d e s t : List ℕ) (o : Outcome ℕ) → s ≡ t → (Written d e s o) × (length s ≤ 662000) → (Written d e t o) × (length t ≤ 662000)
+written-is d e s t o p w = subst (λ (x : List ℕ). (Written d e x o) × (length x ≤ 662000)) p w
 
 -- what is written stands in the bytes
 pub written-within : (d e xs : List ℕ) (k : ℕ) → Written d e xs (given k) → (k ≤ length d) × (length e ≡ length d)
@@ -220,3 +228,7 @@ written-within d e xs k w =
     let n : length xs ≡ k = given-injective (a .1) in
     let h : length xs ≤ length d = leb-true (length xs) (length d) (a .0) in
     (omega arith, ap length (w .1 ∙ ap (λ (b : Bool). pick b (put d 0 xs) d) (a .0)) ∙ length-put d 0 xs (omega arith))
+
+pub fits-all : (d xs : List ℕ) → length xs ≤ length d → writtenLength d xs ≡ given (length xs)
+unfolding writtenLength
+fits-all d xs h = rw (le-leb (length xs) (length d) h)

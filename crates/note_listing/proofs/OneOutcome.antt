@@ -1,15 +1,15 @@
--- No second answer and no other bytes satisfy the promise; and what is written stands in the bytes.
+-- No second answer and no other bytes satisfy the promise; what is written stands in the bytes; and 662,000 bytes are always enough.
 -- Assumes nothing.
-use mathlib.Core.Path.{_≡_, subst}
+use mathlib.Core.Path.{_≡_, subst, _∙_}
 use mathlib.Core.List.{List}
 use Prim.Native.Nat.{ℕ, _≤_}
 use native.Mathlib.Omega.{arith}
 use lib.ListN.{length}
 use Rattle.text.specs.declared.LengthAnswer.{LengthAnswer}
 use Rattle.text.specs.declared.LengthAnswer.the-variants.{Length}
-use Rattle.text.proofs.OneOutcome.{one-write}
+use Rattle.text.proofs.OneOutcome.{same-length, one-write}
 use Rattle.note_listing.specs.Listing.{listing, ListPromise}
-use Rattle.note_listing.proofs.Lines.{written-within}
+use Rattle.note_listing.proofs.Lines.{written-within, fits-all}
 
 -- the answer and the bytes
 pub one-listing : (s d e f : List ℕ) (r t : LengthAnswer) → ListPromise s d e r → ListPromise s d f t → (r ≡ t) × (e ≡ f)
@@ -19,3 +19,7 @@ pub listed-within : (s d e : List ℕ) (r : LengthAnswer) (m : ℕ) → r ≡ Le
 listed-within s d e r m f p =
     let w = written-within d e (listing s) m (subst (λ (x : LengthAnswer). ListPromise s d e x) f p) in
     omega (arith, w .0, w .1)
+
+-- of 662,000 bytes no listing asks more, so that 16 is not answered
+pub room-enough : (s d e : List ℕ) (r : LengthAnswer) → ListPromise s d e r → length (listing s) ≤ 662000 → 662000 ≤ length d → r ≡ Length (length (listing s))
+room-enough s d e r p h k = same-length r (Length (length (listing s))) (p .0 ∙ fits-all d (listing s) (omega arith))

@@ -55,6 +55,10 @@ abbrev pub LineFits : Outcome (List ℕ) → ℕ → ℕ → Type 0
 LineFits (given t) places at = at + length t ≤ places
 LineFits (refused n) places at = ⊥
 
--- lines, or the refusal, written at the start of lent bytes
+-- text written at the start of lent bytes, and not longer than 2,000 lines of 331 bytes
+abbrev pub Listed : List ℕ → List ℕ → List ℕ → LengthAnswer → Type 0
+Listed d e t r = (Written d e t (lengthOutcome r)) × (length t ≤ 662000)
+
+-- lines, or the refusal
 abbrev pub LinesWritten : Outcome (List ℕ) → List ℕ → List ℕ → LengthAnswer → Type 0
-LinesWritten o d e r = Written d e (answerText o) (lengthOutcome r)
+LinesWritten o d e r = Listed d e (answerText o) r

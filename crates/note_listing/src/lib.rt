@@ -2,9 +2,9 @@
 ghost use mathlib.Core.Path.{_≡_};
 ghost use Prim.Native.Nat.{_+_, _≤_};
 ghost use lib.ListN.{length};
-ghost use Rattle.text.specs.Writing.{put, lengthOutcome, Wrote, Written};
-ghost use Rattle.note_listing.specs.Listing.{numberText, refusedText, lineShown, linesOf, noteLines, ListPromise};
-ghost use Rattle.note_listing.specs.Lines.{noDate, dateOn, flowOn, flowsIn, withDays, Taken, AtMost, textOf, LineFits, LinesWritten};
+ghost use Rattle.text.specs.Writing.{put, Wrote};
+ghost use Rattle.note_listing.specs.Listing.{numberText, refusedText, lineShown, linesOf, noteLines, listing, ListPromise};
+ghost use Rattle.note_listing.specs.Lines.{noDate, dateOn, flowOn, flowsIn, withDays, Taken, AtMost, textOf, LineFits, Listed, LinesWritten};
 use bond::Note;
 use calendar::Date;
 use calendar::DateAnswer;
@@ -36,7 +36,7 @@ fn put_refusal(n: u32, out: &mut [u8]) -> usize
 
 // `refused N` and a line feed.
 fn write_refusal(n: u32, out: &mut [u8]) -> LengthAnswer
-    ensures { λ r. ⌜ Written (now (out .entry)) (now (out .exit)) (refusedText n) (lengthOutcome r) ⌝ }
+    ensures { λ r. ⌜ Listed (now (out .entry)) (now (out .exit)) (refusedText n) r ⌝ }
 {
     if out.len() < 9 + text::decimal_length(n as u64) {
         return LengthAnswer::Refused(paper::TOO_FEW_PLACES);
@@ -87,7 +87,7 @@ fn line_length(currency: Currency, day: u32, amount: f64) -> LengthAnswer
 // How many bytes all lines take, or the first refusal.
 fn lines_length(currency: Currency, days: &[u32], amounts: &[f64]) -> LengthAnswer
     requires { ⌜ (length (now days) ≤ 2000) × (length (now days) ≤ length (now amounts)) ⌝ }
-    ensures { λ r. ⌜ Taken (linesOf (flowsIn currency (now (days .entry)) (now (amounts .entry)))) r ⌝ }
+    ensures { λ r. ⌜ (Taken (linesOf (flowsIn currency (now (days .entry)) (now (amounts .entry)))) r) × (AtMost 662000 r) ⌝ }
 {
     let mut total: usize = 0;
     let mut i: usize = 0;
@@ -159,9 +159,9 @@ fn list_flows(note: Note, table: &[u32], out: &mut [u8]) -> LengthAnswer
     }
 }
 
-// The listing of a packed note, at the start of the lent bytes: its flows, or `refused N`.
+// The listing of a packed note, at the start of the lent bytes: its flows, or `refused N`. No listing is longer than 662,000 bytes.
 pub fn list_note(s: &[u8], out: &mut [u8]) -> LengthAnswer
-    ensures { λ r. ⌜ ListPromise (now (s .entry)) (now (out .entry)) (now (out .exit)) r ⌝ }
+    ensures { λ r. ⌜ (ListPromise (now (s .entry)) (now (out .entry)) (now (out .exit)) r) × (length (listing (now (s .entry))) ≤ 662000) ⌝ }
 {
     let mut table = [0u32; 4096];
     match packed::read_note(s, &mut table) {

@@ -6,7 +6,7 @@ use mathlib.Core.Bool.{Bool, true, false}
 use mathlib.Core.List.{List, _++_}
 use borrow.Author.Tests.{le-leb, lt-leb, leb-true}
 use lib.Dec.{leb, eqb}
-use lib.ListN.{length, drop}
+use lib.ListN.{length, take, drop}
 use Rattle.paper.specs.Outcome.{given, refused, unless, andThen, both}
 use Rattle.paper.proofs.Outcomes.{both-true, unless-given, then-given}
 use Rattle.day_count_conv.specs.Conventions.{conventionOf}
@@ -16,7 +16,7 @@ use Rattle.bond.proofs.Ends.{passed}
 use Rattle.packed_note.specs.Codes.{unitOfCode, numberGood}
 use Rattle.packed_note.specs.Records.{rawOf, noteWith, checkedUnit, noteIn}
 use Rattle.packed_note.specs.declared.Raw.{Raw}
-use Rattle.packed.specs.Tables.{tableCount, daysFrom, tableDays, isWhole, isTableIn, noteInBytes, unpacked, readInto, ReadPromise}
+use Rattle.packed.specs.Tables.{tableCount, tableDays, isWhole, isTableIn, noteInBytes, unpacked, readInto, ReadPromise}
 use Rattle.packed.specs.declared.PackedAnswer.the-variants as packed-answer
 use Rattle.packed.proofs.Tables.{length-days}
 
@@ -74,8 +74,8 @@ module _ (s old : List ℕ) (n : Note) (m : ℕ) (e : noteInBytes s ≡ given n)
       short : readInto (length old) s ≡ refused 16
       short = into-given s n (length old) e ∙ rw (lt-leb (length (tableDays s)) (length old) (rw (counted) h))
 
-  pub reads-all : (new : List ℕ) → m ≤ length old → new ≡ daysFrom s 0 m ++ drop m old → ReadPromise s old new (packed-answer.Packed (record { note = n; holidays = m }))
-  reads-all new h g = record { answer = rw (all, counted); places = rw (all, counted) (g ∙ ap (λ (k : ℕ). daysFrom s 0 k ++ drop m old) f) }
+  pub reads-all : (days new : List ℕ) → m ≤ length old → take (tableCount s) days ≡ tableDays s → new ≡ take m days ++ drop m old → ReadPromise s old new (packed-answer.Packed (record { note = n; holidays = m }))
+  reads-all days new h d g = record { answer = rw (all, counted); places = rw (all, counted) (g ∙ ap (λ (k : ℕ). take k days ++ drop m old) f ∙ ap (λ (l : List ℕ). l ++ drop m old) d) }
     where
       all : readInto (length old) s ≡ given (record { note = n; days = tableDays s })
       all = into-given s n (length old) e ∙ rw (le-leb (length (tableDays s)) (length old) (rw (counted) h))

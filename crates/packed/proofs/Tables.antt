@@ -3,15 +3,18 @@
 use Prim.Native.Nat.{ℕ, zero, suc, _+_, _-_, _*_, _/_, _≤_, _<_}
 use mathlib.Core.Path.{_≡_, refl, sym, ap, subst, _∙_}
 use mathlib.Core.Bool.{Bool, true, false}
-use mathlib.Core.List.{List, [], _∷_, _++_}
+use mathlib.Core.List.{List, [], _∷_, _++_, append-nil}
+use native.Mathlib.Nat.{zero-add}
+use native.Mathlib.Numerals.{add-one}
 use native.Mathlib.Omega.{arith}
 use borrow.Author.Tests.{le-leb, lt-leb, eq-eqb, ne-eqb, leb-true, eqb-true}
 use lib.Dec.{leb, eqb}
-use lib.ListN.{length, drop, set}
+use lib.ListN.{length, getD, set, take, drop}
+use lib.Seq.{length-take-le, length-front, paste-suc}
 use Rattle.paper.proofs.Outcomes.{both-true}
 use Rattle.bit_fields.specs.Bits.{field}
 use Rattle.holidays.specs.Table.{ascendsFrom, isTable}
-use Rattle.room.proofs.Filling.{Filled, filled-none, filled-more, filled-all}
+use Rattle.room.proofs.Filling.{Filled, filled-none, filled-more}
 use Rattle.packed.specs.Tables.{tableCount, dayAt, daysFrom, tableDays, bitLength, byteLength, isExact, isWhole, isTableIn}
 
 -- ---- its length
@@ -122,7 +125,19 @@ module _ (s old : List ℕ) (n : ℕ) where
       filled-more (daysFrom s 0 n) old i d (daysFrom s (i + 1) (n - (i + 1))) new l
       (subst (λ (t : List ℕ). Filled (daysFrom s 0 n) old i t new) (days-next s i n h ∙ ap (λ (x : ℕ). x ∷ daysFrom s (i + 1) (n - (i + 1))) (sym e)) f)
 
-  pub days-end : (i : ℕ) (new : List ℕ) → i ≡ n → Filled (daysFrom s 0 n) old i (daysFrom s i (n - i)) new → new ≡ daysFrom s 0 n ++ drop n old
+  pub days-end : (i : ℕ) (new : List ℕ) → i ≡ n → Filled (daysFrom s 0 n) old i (daysFrom s i (n - i)) new → take n new ≡ daysFrom s 0 n
   days-end i new e f =
-      filled-all (daysFrom s 0 n) old i new (subst (λ (t : List ℕ). Filled (daysFrom s 0 n) old i t new) (days-none s i n (omega arith)) f)
-      ∙ ap (λ (k : ℕ). daysFrom s 0 n ++ drop k old) e
+      let left : daysFrom s i (n - i) ≡ [] = days-none s i n (omega arith) in
+      ap (λ (k : ℕ). take k new) (sym e) ∙ sym (append-nil (take i new)) ∙ ap (λ (t : List ℕ). take i new ++ t) (sym left) ∙ f .front
+
+-- ---- copied one after the other
+
+module _ (days old new : List ℕ) (i : ℕ) (e : new ≡ take i days ++ drop i old) where
+  pub copied-length : i ≤ length days → i ≤ length old → length new ≡ length old
+  copied-length h k = ap length e ∙ length-front old (take i days) i (length-take-le i days h ∙ sym (length-take-le i old k))
+
+  pub copied-more : i < length days → i < length old → set new i (getD days i 0) ≡ take (i + 1) days ++ drop (i + 1) old
+  copied-more h k = rw (e, add-one) (simp zero-add at (paste-suc old 0 days i 0 (omega arith) h))
+
+  pub copied-all : (n : ℕ) → i ≡ n → new ≡ take n days ++ drop n old
+  copied-all n f = e ∙ rw (f)

@@ -32,10 +32,10 @@ enum-known-m : tie.Need-enum-known-m
 enum-known-m c = search needs
 
 array-share-prefix-out : tie.Need-array-share-prefix-out
-array-share-prefix-out c = listed-within _ _ _ _ _ (c .before .m .given .1) (c .before .before .before .before .list-note .ensures)
+array-share-prefix-out c = listed-within _ _ _ _ _ (c .before .m .given .1) (c .before .before .before .before .list-note .ensures .0)
 
 slice-aggregate-write-all : tie.Need-slice-aggregate-write-all
-slice-aggregate-write-all c = sym (length-take-le _ _ (listed-within _ _ _ _ _ (c .before .before .m .given .1) (c .before .before .before .before .before .list-note .ensures)))
+slice-aggregate-write-all c = sym (length-take-le _ _ (listed-within _ _ _ _ _ (c .before .before .m .given .1) (c .before .before .before .before .before .list-note .ensures .0)))
 
 write-all-requires : tie.Need-write-all-requires
 write-all-requires c κs = search needs

@@ -70,14 +70,14 @@ returns c =
     let l = c .before .before .before .before .before .before .before .loop in
     let a = c .before .before .before .before .before .before .before .before .before .before .args in
     let next = flows-next (a .currency) (now (a .days)) (now (a .amounts)) (l .i) (omega arith) (omega arith) in
-    measured-refused (l .total) (c .before .n .given .0 .0) _ _ _ (sym (ap (λ (fs : List CashFlow). measured (l .total) (linesOf fs)) next) ∙ l .inv .2) (ap lengthOutcome (sym (c .before .n .given .1)) ∙ c .before .before .before .line-length .ensures .0) ∙ measured-all (linesOf (flowsIn (a .currency) (now (a .days)) (now (a .amounts))))
+    (measured-refused (l .total) (c .before .n .given .0 .0) _ _ _ (sym (ap (λ (fs : List CashFlow). measured (l .total) (linesOf fs)) next) ∙ l .inv .2) (ap lengthOutcome (sym (c .before .n .given .1)) ∙ c .before .before .before .line-length .ensures .0) ∙ measured-all (linesOf (flowsIn (a .currency) (now (a .days)) (now (a .amounts)))), omega arith)
 
 returns-2 : tie.Need-returns-2 Inv-loop μ-loop
 returns-2 c =
     let l = c .before .loop in
     let a = c .before .before .before .before .args in
     let none = flows-none (a .currency) (now (a .days)) (now (a .amounts)) (l .i) (omega arith) in
-    sym (measured-none (l .total)) ∙ sym (ap (λ (fs : List CashFlow). measured (l .total) (linesOf fs)) none) ∙ l .inv .2 ∙ measured-all (linesOf (flowsIn (a .currency) (now (a .days)) (now (a .amounts))))
+    (sym (measured-none (l .total)) ∙ sym (ap (λ (fs : List CashFlow). measured (l .total) (linesOf fs)) none) ∙ l .inv .2 ∙ measured-all (linesOf (flowsIn (a .currency) (now (a .days)) (now (a .amounts)))), omega arith)
 
 pub lines-length-spec : {M : Type 1} → statement M
 lines-length-spec =

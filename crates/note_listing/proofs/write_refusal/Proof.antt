@@ -4,7 +4,7 @@ use native.Mathlib.Omega.{arith}
 use Rattle.text.proofs.Digits.{decimal-within}
 use Rattle.text.proofs.Writers.{written-fits, written-refused}
 use Rattle.note_listing.specs.Listing.{refusedText}
-use Rattle.note_listing.proofs.Lines.{refusal-long}
+use Rattle.note_listing.proofs.Lines.{refusal-long, refusal-short}
 use borrow.Author.Needs.{needs}
 use Rattle.note_listing.proofs.write_refusal.Statement.{statement}
 use Rattle.note_listing.proofs.write_refusal.Tie as tie
@@ -18,7 +18,7 @@ add-if1 c = omega (arith, c .decimal-length .ensures, decimal-within 10 (c .befo
 returns : tie.Need-returns
 returns c =
     let s : tie.Start = c .before .before .before in
-    written-refused _ (refusedText (s .args .n)) (omega (arith, c .before .decimal-length .ensures, refusal-long (s .args .n)))
+    (written-refused _ (refusedText (s .args .n)) (omega (arith, c .before .decimal-length .ensures, refusal-long (s .args .n))), refusal-short (s .args .n) (omega arith))
 
 put-refusal-requires : tie.Need-put-refusal-requires
 put-refusal-requires c κs =
@@ -31,7 +31,7 @@ same-length c = search needs
 returns-2 : tie.Need-returns-2
 returns-2 c =
     let s : tie.Start = c .before .before .before .before .before .before .before in
-    written-fits _ _ (refusedText (s .args .n)) _ (c .before .before .put-refusal .ensures) (omega (arith, c .before .before .before .before .before .decimal-length .ensures, refusal-long (s .args .n), c .before .before .before .before .if1 .left))
+    (written-fits _ _ (refusedText (s .args .n)) _ (c .before .before .put-refusal .ensures) (omega (arith, c .before .before .before .before .before .decimal-length .ensures, refusal-long (s .args .n), c .before .before .before .before .if1 .left)), refusal-short (s .args .n) (omega arith))
 
 pub write-refusal-spec : {M : Type 1} → statement M
 write-refusal-spec =

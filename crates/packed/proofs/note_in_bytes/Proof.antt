@@ -1,11 +1,13 @@
 -- `packed::note_in_bytes` meets its contract: 18, or the note is judged.
 -- Assumes nothing.
-use mathlib.Core.Path.{_≡_, sym, _∙_}
-use mathlib.Core.Bool.{true}
+use Prim.Native.Nat.{ℕ}
+use mathlib.Core.Path.{_≡_, sym, subst, _∙_}
+use mathlib.Core.Bool.{true, true≢false}
 use native.Mathlib.Omega.{arith}
 use borrow.Author.Tests.{not-true, not-false}
 use denote.Ref.{now}
-use Rattle.packed.specs.Tables.{isWhole}
+use lib.ListN.{take}
+use Rattle.packed.specs.Tables.{daysFrom, isWhole}
 use Rattle.packed.proofs.Tables.{whole-long}
 use Rattle.packed.proofs.Reading.{bytes-short, bytes-whole}
 use borrow.Author.Needs.{needs}
@@ -16,27 +18,36 @@ is-whole-requires : tie.Need-is-whole-requires
 is-whole-requires c κs = search needs
 
 returns : tie.Need-returns
-returns c = bytes-short (now (c .before .before .before .args .s)) (sym (c .before .is-whole .ensures) ∙ not-true _ (c .if1 .taken))
+returns c =
+    let e = sym (c .before .is-whole .ensures) ∙ not-true _ (c .if1 .taken) in
+    (bytes-short (now (c .before .before .before .before .args .s)) e, λ p. absurd (true≢false (sym (p .0) ∙ e)))
 
-whole : (c : tie.Else1) → isWhole (now (c .before .before .before .args .s)) ≡ true
+whole : (c : tie.Else1) → isWhole (now (c .before .before .before .before .args .s)) ≡ true
 whole c = sym (c .before .is-whole .ensures) ∙ not-false _ (c .if1 .left)
 
 table-count-requires : tie.Need-table-count-requires
-table-count-requires c κs = whole-long (now (c .before .before .before .args .s)) (whole c)
+table-count-requires c κs = whole-long (now (c .before .before .before .before .args .s)) (whole c)
 
 read-raw-requires : tie.Need-read-raw-requires
-read-raw-requires c κs = omega (arith, whole-long (now (c .before .before .before .before .args .s)) (whole (c .before)))
+read-raw-requires c κs = omega (arith, whole-long (now (c .before .before .before .before .before .args .s)) (whole (c .before)))
 
 is-table-in-requires : tie.Need-is-table-in-requires
-is-table-in-requires c κs = (whole (c .before .before), c .before .table-count .ensures .0)
+is-table-in-requires c κs = (whole (c .before .before .before), c .before .before .table-count .ensures .0, c .before .before .before .before .before .before .before .pre)
 
 note-in-requires : tie.Need-note-in-requires
 note-in-requires c κs = search needs
 
+same-length : tie.Need-same-length
+same-length c = search needs
+
 returns-2 : tie.Need-returns-2
 returns-2 c =
-    let b = c .before .before in
-    c .note-in .ensures ∙ bytes-whole (now (b .before .before .before .before .before .args .s)) _ _ (whole (b .before .before)) (b .read-raw .ensures .0) (c .before .is-table-in .ensures)
+    let b = c .before .before .before .before .before in
+    let s = now (b .before .before .before .before .before .before .args .s) in
+    let d = c .before .before .before .is-table-in in (
+      c .note-in .ensures ∙ bytes-whole s _ _ (whole (b .before .before)) (b .read-raw .ensures .0) (d .ensures .0),
+      λ p. subst (λ (k : ℕ). take k (d .last .1 .1 .0) ≡ daysFrom s 0 k) (b .before .table-count .ensures .0) (d .ensures .1 (d .ensures .0 ∙ p .1)),
+    )
 
 pub note-in-bytes-spec : {M : Type 1} → statement M
 note-in-bytes-spec =
@@ -48,4 +59,5 @@ note-in-bytes-spec =
     read-raw-requires
     is-table-in-requires
     note-in-requires
+    same-length
     returns-2)

@@ -7,7 +7,7 @@ use lib.IntN.{pos, negsuc}
 use lib.Ieee.{Float, nan, inf, fin, add, mul, div, lt, eq, le, ofInt}
 use Rattle.paper.specs.Outcome.{given, refused}
 use Rattle.gregorian.specs.Gregorian.{leap, lengthIn, monthLength, yearLength, before}
-use Rattle.calendar.specs.Dates.{isDate, isDay, isBefore, isSame, dayNumber}
+use Rattle.calendar.specs.Dates.{isDate, isBefore, isSame, dayNumber}
 use Rattle.calendar.specs.declared.Date.{Date}
 use Rattle.cash_amount.specs.Amounts.{isCapital, isCurrency, isSameCurrency}
 use Rattle.cash_amount.specs.declared.Currency.{Currency}
@@ -17,7 +17,6 @@ use Rattle.day_count_conv.specs.Conventions.{simpleFraction, yearFraction}
 use Rattle.day_count_conv.specs.declared.DayCountConv.{DayCountConv}
 use Rattle.day_count_conv.specs.declared.DayCountConv.the-variants as conv
 use Rattle.rates.specs.Rates.{isRate, factorOf, fractionTo, discountFactor, isOneCurrency, flowValue, discountedFlow, flowAdded, streamFrom, discountedStream}
-use Rattle.rates.specs.Listed.{currencyAt, dateAt, flowAt, flowsFrom, flowsOf}
 use Rattle.rates.specs.declared.FlatRate.{FlatRate}
 
 abbrev on : ℕ → ℕ → ℕ → Date
@@ -118,15 +117,3 @@ order =
       rate-of-none = refl;
       first-ends = refl;
     }
-
--- lists: EUR is 4543826, and a day or a currency that is not there is refused 1 or 17
-pub record Lists : Type 0 where
-  pub euro : currencyAt 4543826 ≡ eur
-  pub four-bytes : currencyAt 21321042 ≡ record { first = 0; second = 0; third = 0 }
-  pub no-day : discountedStream (flat one conv.Act365) (on 2021 1 1) (flowsOf [] (4543826 ∷ []) (one ∷ [])) ≡ refused 1
-  pub no-currency : discountedStream (flat one conv.Act365) (on 2021 1 1) (flowsOf (1 ∷ []) [] (one ∷ [])) ≡ refused 17
-  pub no-amounts : discountedStream (flat one conv.Act365) (on 2021 1 1) (flowsOf (1 ∷ []) (1 ∷ []) []) ≡ given zero
-
-pub lists : Lists
-unfolding add mul div lt eq le ofInt leap lengthIn monthLength yearLength before isDate isDay isBefore isSame dayNumber isCapital isCurrency isSameCurrency exactFraction bits impossible simpleFraction yearFraction isRate factorOf fractionTo isOneCurrency flowValue flowAdded streamFrom discountedStream dateAt currencyAt flowAt flowsFrom flowsOf
-lists = record { euro = refl; four-bytes = refl; no-day = refl; no-currency = refl; no-amounts = refl }

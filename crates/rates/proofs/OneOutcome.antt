@@ -1,5 +1,4 @@
 -- No second answer satisfies an entry point's promise; and a refusal's number is never 0. Assumes nothing.
-use Prim.Native.Nat.{ℕ}
 use mathlib.Core.Path.{_≡_, sym, _∙_, ap}
 use mathlib.Core.List.{List, [], _∷_}
 use native.Mathlib.Omega.{arith}
@@ -17,7 +16,6 @@ use Rattle.day_count_conv.specs.Conventions.{inBits}
 use Rattle.day_count_conv.specs.declared.DayCountConv.{DayCountConv}
 use Rattle.day_count_conv.proofs.OneOutcome.{fraction-numbered}
 use Rattle.rates.specs.Rates.{factorOutcome, isRate, factorOf, none, fractionTo, discountFactor, isOneCurrency, flowValue, discountedFlow, flowAdded, streamFrom, discountedStream, FactorPromise, FlowPromise, StreamPromise}
-use Rattle.rates.specs.Listed.{flowsOf, ListedPromise}
 use Rattle.rates.specs.declared.FlatRate.{FlatRate}
 use Rattle.rates.specs.declared.FactorAnswer.{FactorAnswer}
 use Rattle.rates.specs.declared.FactorAnswer.the-variants as factor-answer
@@ -38,9 +36,6 @@ module _ (rate : FlatRate) (today : Date) where
 
   pub one-stream : (fs : List CashFlow) (r s : AmountAnswer) → StreamPromise rate today fs r → StreamPromise rate today fs s → r ≡ s
   one-stream fs r s p q = same-amount-answer r s (p ∙ sym q)
-
-  pub one-listed : (days currencies : List ℕ) (amounts : List Float) (r s : AmountAnswer) → ListedPromise rate today days currencies amounts r → ListedPromise rate today days currencies amounts s → r ≡ s
-  one-listed days currencies amounts r s p q = one-stream (flowsOf days currencies amounts) r s p q
 
 -- every refusal has its number
 to-numbered : (rule : DayCountConv) (today t : Date) → Numbered (fractionTo rule today t)
@@ -77,6 +72,3 @@ module _ (rate : FlatRate) (today : Date) where
   pub stream-numbered : (fs : List CashFlow) → Numbered (discountedStream rate today fs)
   unfolding discountedStream
   stream-numbered fs = unless-numbered (isRate (rate .rate)) 15 _ (omega arith) (from-numbered fs (whole (pos 0)))
-
-  pub listed-numbered : (days currencies : List ℕ) (amounts : List Float) → Numbered (discountedStream rate today (flowsOf days currencies amounts))
-  listed-numbered days currencies amounts = stream-numbered (flowsOf days currencies amounts)

@@ -1,16 +1,11 @@
 // Discounting at a flat rate with simple compounding: the factor, one cash flow, and a stream of them.
 ghost use mathlib.Core.Path.{_≡_};
-ghost use Prim.Native.Nat.{_<_};
-ghost use lib.ListN.{length, getD};
 ghost use lib.Ieee.Scale.{finite};
 ghost use Rattle.day_count_conv.specs.Conventions.{fractionOutcome};
 ghost use Rattle.cash_amount.specs.Amounts.{amountOutcome};
 ghost use Rattle.rates.specs.Rates.{isRate, factorOf, fractionTo, isOneCurrency, flowValue, flowAdded, FactorPromise, FlowPromise, StreamPromise};
 ghost use Rattle.rates.specs.Steps.{streamStart, flowOnto};
-ghost use Rattle.rates.specs.Listed.{dateAt, currencyAt, flowAt, ListedPromise};
 use calendar::Date;
-use calendar::DateAnswer;
-use calendar::Day;
 use cash_amount::AmountAnswer;
 use cash_amount::Currency;
 use cash_flow::CashFlow;
@@ -40,8 +35,8 @@ fn is_finite(x: f64) -> bool
     d == d
 }
 
-// Finite, 0 to 1; -0.0 is 0.
-fn is_rate(x: f64) -> bool
+// Inner: a stream judges its rate once. Finite, 0 to 1; -0.0 is 0.
+pub fn is_rate(x: f64) -> bool
     ensures { λ r. ⌜ r ≡ isRate x ⌝ }
 {
     if 0.0 <= x { x <= 1.0 } else { false }
@@ -119,97 +114,14 @@ pub fn discount_cash_flow(rate: FlatRate, flow: CashFlow, today: Date) -> Amount
     flow_value(rate, flow, today)
 }
 
-// One flow more of a stream whose sum so far is given.
-fn flow_added(rate: FlatRate, flow: CashFlow, today: Date, sum: f64) -> AmountAnswer
+// Inner: at a rate already judged. One flow more of a stream whose sum so far is given.
+pub fn flow_added(rate: FlatRate, flow: CashFlow, today: Date, sum: f64) -> AmountAnswer
     ensures { λ r. ⌜ amountOutcome r ≡ flowAdded rate today sum flow ⌝ }
 {
     match flow_value(rate, flow, today) {
         AmountAnswer::Amount(x) => AmountAnswer::Amount(sum + x),
         AmountAnswer::Refused(n) => AmountAnswer::Refused(n),
     }
-}
-
-// The date of a serial day, or one that does not exist.
-fn date_at(n: u32) -> Date
-    ensures { λ r. ⌜ r ≡ dateAt n ⌝ }
-{
-    match calendar::date_of(Day(n)) {
-        DateAnswer::Date(t) => t,
-        DateAnswer::Refused(k) => Date {
-            year: 0,
-            month: 0,
-            day: 0,
-        },
-    }
-}
-
-// The currency whose three bytes a number is, or one that is malformed.
-fn currency_at(n: u32) -> Currency
-    ensures { λ r. ⌜ r ≡ currencyAt n ⌝ }
-{
-    if n < 16777216 {
-        Currency {
-            first: (n / 65536) as u8,
-            second: (n / 256 % 256) as u8,
-            third: (n % 256) as u8,
-        }
-    } else {
-        Currency {
-            first: 0,
-            second: 0,
-            third: 0,
-        }
-    }
-}
-
-fn entry(s: &[u32], i: usize) -> u32
-    ensures { λ r. ⌜ r ≡ getD (now (s .entry)) i 0 ⌝ }
-{
-    if i < s.len() { s[i] } else { 0 }
-}
-
-fn flow_at(days: &[u32], currencies: &[u32], amounts: &[f64], i: usize) -> CashFlow
-    requires { ⌜ i < length (now amounts) ⌝ }
-    ensures { λ r. ⌜ r ≡ flowAt (now (days .entry)) (now (currencies .entry)) (now (amounts .entry)) i ⌝ }
-{
-    let date = date_at(entry(days, i));
-    let currency = currency_at(entry(currencies, i));
-    let amount = amounts[i];
-    CashFlow {
-        date,
-        currency,
-        amount,
-    }
-}
-
-// A stream as lists: serial days, currencies as numbers, and amounts.
-pub fn discount_listed_flows(
-    rate: FlatRate,
-    days: &[u32],
-    currencies: &[u32],
-    amounts: &[f64],
-    today: Date,
-) -> AmountAnswer
-    ensures { λ r. ⌜ ListedPromise rate today (now (days .entry)) (now (currencies .entry)) (now (amounts .entry)) r ⌝ }
-{
-    if !is_rate(rate.rate) {
-        return AmountAnswer::Refused(paper::NUMBER_OUT_OF_LIMITS);
-    }
-    let mut sum: f64 = 0.0;
-    let mut i: usize = 0;
-    while i < amounts.len() {
-        let flow = flow_at(days, currencies, amounts, i);
-        match flow_added(rate, flow, today, sum) {
-            AmountAnswer::Amount(x) => {
-                sum = x;
-            }
-            AmountAnswer::Refused(n) => {
-                return AmountAnswer::Refused(n);
-            }
-        }
-        i += 1;
-    }
-    AmountAnswer::Amount(sum)
 }
 
 // What a stream begins with: 0, or 15 for the rate.

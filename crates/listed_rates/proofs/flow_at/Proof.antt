@@ -1,9 +1,13 @@
--- `rates::flow_at` meets its contract: the three parts at one place.
+-- `listed_rates::flow_at` meets its contract: the three parts at one place.
 -- Assumes nothing.
+use lib.ListN.{getD}
+use lib.Ieee.{nan}
+use denote.Ref.{now}
 use borrow.Author.Needs.{needs}
-use Rattle.rates.specs.Listed.{flowAt}
-use Rattle.rates.proofs.flow_at.Statement.{statement}
-use Rattle.rates.proofs.flow_at.Tie as tie
+use mathlib.Core.Path.{_∙_, ap}
+use Rattle.listed_rates.specs.Listed.{dateAt, currencyAt, flowAt}
+use Rattle.listed_rates.proofs.flow_at.Statement.{statement}
+use Rattle.listed_rates.proofs.flow_at.Tie as tie
 
 entry-requires : tie.Need-entry-requires
 entry-requires c κs = search needs
@@ -25,7 +29,14 @@ shared-slice-read-amount c = search needs
 
 returns : tie.Need-returns
 unfolding flowAt
-returns c = cc
+returns c =
+    let b = c .before .before .before in
+    let a = b .before .before .before .before .before .args in
+    λ i. record {
+      date = (b .date-at .ensures ∙ ap dateAt (b .before .entry .ensures)) i;
+      currency = (c .before .currency-at .ensures ∙ ap currencyAt (c .before .before .entry2 .ensures)) i;
+      amount = getD (now (a .amounts)) (a .i) nan;
+    }
 
 pub flow-at-spec : {M : Type 1} → statement M
 flow-at-spec =

@@ -1,4 +1,4 @@
--- `rates::discount_listed_flows` meets its contract: 15, or the flows one after the other; what is left decides. Laws of Streams.
+-- `listed_rates::discount_listed_flows` meets its contract: 15, or the flows one after the other; what is left decides. Laws of Streams.
 -- Assumes nothing.
 use Prim.Native.Nat.{_-_, _≤_}
 use mathlib.Core.Path.{sym, ap, ap₂, _∙_}
@@ -10,12 +10,13 @@ use lib.IntN.{pos}
 use borrow.Author.Tests.{not-true, not-false}
 use Rattle.day_fraction.specs.Fractions.{whole}
 use Rattle.cash_amount.specs.Amounts.{amountOutcome}
 use Rattle.rates.specs.Rates.{streamFrom, discountedStream}
-use Rattle.rates.specs.Listed.{flowsFrom, flowsOf}
-use Rattle.rates.proofs.Streams.{stream-on, stream-ends, stream-none, flows-more, flows-all, flows-none}
+use Rattle.listed_rates.specs.Listed.{flowsFrom, flowsOf}
+use Rattle.rates.proofs.Streams.{stream-on, stream-ends, stream-none}
+use Rattle.listed_rates.proofs.Lists.{flows-more, flows-all, flows-none}
 use Rattle.rates.proofs.Numbers.{lit0}
-use Rattle.rates.proofs.discount_listed_flows.Statement.{statement}
-use Rattle.rates.proofs.discount_listed_flows.Tie as tie
+use Rattle.listed_rates.proofs.discount_listed_flows.Statement.{statement}
+use Rattle.listed_rates.proofs.discount_listed_flows.Tie as tie
 
 abbrev Inv-loop : tie.InvT-loop
 Inv-loop rate days currencies amounts today sum₀ i₀ sum i =

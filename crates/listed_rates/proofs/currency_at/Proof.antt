@@ -1,10 +1,10 @@
--- `rates::currency_at` meets its contract: each way is one of the two currencies.
+-- `listed_rates::currency_at` meets its contract: each way is one of the two currencies.
 -- Assumes nothing.
 use borrow.Author.Tests.{lt-ltb, le-ltb}
 use borrow.Author.Needs.{needs}
-use Rattle.rates.specs.Listed.{currencyAt}
-use Rattle.rates.proofs.currency_at.Statement.{statement}
-use Rattle.rates.proofs.currency_at.Tie as tie
+use Rattle.listed_rates.specs.Listed.{currencyAt}
+use Rattle.listed_rates.proofs.currency_at.Statement.{statement}
+use Rattle.listed_rates.proofs.currency_at.Tie as tie
 
 cast-t5 : tie.Need-cast-t5
 cast-t5 c = search needs

@@ -1,10 +1,10 @@
--- `rates::entry` meets its contract: the entry, or 0 past the end.
+-- `listed_rates::entry` meets its contract: the entry, or 0 past the end.
 -- Assumes nothing.
 use mathlib.Core.Path.{sym}
 use lib.ListN.{List·getD-eq-default}
 use borrow.Author.Needs.{needs}
-use Rattle.rates.proofs.entry.Statement.{statement}
-use Rattle.rates.proofs.entry.Tie as tie
+use Rattle.listed_rates.proofs.entry.Statement.{statement}
+use Rattle.listed_rates.proofs.entry.Tie as tie
 
 mul-result : tie.Need-mul-result
 mul-result c = search needs

@@ -1,11 +1,11 @@
--- `rates::date_at` meets its contract: the date of the answer, or one that does not exist. Laws of Streams.
+-- `listed_rates::date_at` meets its contract: the date of the answer, or one that does not exist. Laws of Streams.
 -- Assumes nothing.
 use mathlib.Core.Path.{sym, ap, _∙_}
 use borrow.Author.Needs.{needs}
 use Rattle.calendar.specs.Answers.{dateOutcome}
-use Rattle.rates.proofs.Streams.{date-there, date-absent}
-use Rattle.rates.proofs.date_at.Statement.{statement}
-use Rattle.rates.proofs.date_at.Tie as tie
+use Rattle.listed_rates.proofs.Lists.{date-there, date-absent}
+use Rattle.listed_rates.proofs.date_at.Statement.{statement}
+use Rattle.listed_rates.proofs.date_at.Tie as tie
 
 date-of-requires : tie.Need-date-of-requires
 date-of-requires c κs = search needs

@@ -2,9 +2,9 @@
 use Prim.Native.Nat.{ℕ}
 use mathlib.Core.Path.{_≡_, sym, ap, _∙_}
 use mathlib.Core.List.{List}
-use lib.IntN.{ℤ}
+use lib.IntN.{ℤ, natAbs}
 use Rattle.paper.specs.Outcome.{Outcome}
-use Rattle.paper.proofs.Outcomes.{given-injective, refused-injective, given-not-refused}
+use Rattle.paper.proofs.Outcomes.{given-injective, refused-injective, given-not-refused, one-value}
 use Rattle.text.specs.declared.LengthAnswer.{LengthAnswer}
 use Rattle.text.specs.declared.LengthAnswer.the-variants as length
 use Rattle.text.specs.Writing.{Wrote, Written, lengthOutcome, TakesDecimal, TakesPadded, TakesSigned}
@@ -36,3 +36,6 @@ one-padded-length width n r t p q = p ∙ sym q
 
 pub one-signed-length : (z : ℤ) (r t : ℕ) → TakesSigned z r → TakesSigned z t → r ≡ t
 one-signed-length z r t p q = p ∙ sym q
+
+pub one-magnitude : (n : ℤ) (r s : ℕ) → r ≡ natAbs n → s ≡ natAbs n → r ≡ s
+one-magnitude n r s p q = one-value r s p q

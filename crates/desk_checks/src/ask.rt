@@ -4,8 +4,10 @@ use crate::told;
 use crate::told::Tally;
 use bond::Note;
 use bond::NoteNumber;
+use calendar::Date;
 use calendar::Day;
 use cash_amount::Currency;
+use cash_flow::FlowsAnswer;
 use coupon_date::CouponDate;
 use day_adjust::DayAdjust;
 use day_count_conv::DayCountConv;
@@ -59,18 +61,19 @@ pub fn step(c: Tally, row: u8, from: u32, sign: u8, num: i32, unit: u8, want: u3
 }
 
 // dd.mm text.
-pub fn coupon(c: Tally, s: &[u8], number: u32) -> Tally {
+pub fn coupon(c: Tally, s: &[u8], want: u32) -> Tally {
     print::bytes(b"- coupon ");
     print::bytes(s);
-    told::coupon(c, coupon_date::read_coupon_date(s), number)
+    told::coupon(c, coupon_date::read_coupon_date(s), want)
 }
 
-// A date adjusted under a table: following, or modified.
+// A date adjusted under a table.
 pub fn adjusted(c: Tally, row: u8, rule: DayAdjust, on: u32, table: &[u32], want: u32) -> Tally {
     let t = told::date_in(on);
     letter(row);
+    print::adjustment(rule);
     print::date(t);
-    print::bytes(b" adjusted, holidays ");
+    print::bytes(b", holidays ");
     print::number(table.len() as u64);
     told::date(c, day_adjust::adjust_date(rule, t, table), want)
 }
@@ -112,6 +115,14 @@ pub fn fraction(
     between(c, rule, start, end, x, want, number)
 }
 
+// What ICMA asks for.
+fn rolled(p: TimePeriod, t: Date) -> Extras {
+    Extras {
+        roll: RollDate::Date(t),
+        period: RollPeriod::Period(p),
+    }
+}
+
 // ICMA, rolled from a date by months.
 pub fn icma(
     c: Tally,
@@ -125,17 +136,21 @@ pub fn icma(
 ) -> Tally {
     let p = period_of(months, b'M');
     let t = told::date_in(roll);
-    let x = Extras {
-        roll: RollDate::Date(t),
-        period: RollPeriod::Period(p),
-    };
     letter(row);
     print::bytes(b"ICMA ");
     print::period(p);
     print::bytes(b", roll ");
     print::date(t);
     print::bytes(b", ");
-    between(c, DayCountConv::ActActICMA, start, end, x, want, number)
+    between(
+        c,
+        DayCountConv::ActActICMA,
+        start,
+        end,
+        rolled(p, t),
+        want,
+        number,
+    )
 }
 
 // A note of 1000 EUR, 30E/360, modified, with its coupons in July.
@@ -167,22 +182,26 @@ pub fn accrued(c: Tally, row: u8, n: Note, on: u32, want: f64, number: u32) -> T
     letter(row);
     print::bytes(b"accrued ");
     print::date(today);
-    print::bytes(b", ");
     print::note(n);
-    let got = accrued_interest::accrued_interest(n, today);
-    told::amount(c, got, want, number)
+    told::amount(
+        c,
+        accrued_interest::accrued_interest(n, today),
+        want,
+        number,
+    )
 }
 
-// How many flows a note pays, at position 1 and without holidays.
-pub fn flows(c: Tally, n: Note, number: u32) -> Tally {
+// How many flows, at position 1 and without holidays.
+fn flows_of(n: Note) -> FlowsAnswer {
     let table: [u32; 0] = [];
     let mut days = [0u32; 8];
     let mut amounts = [0.0f64; 8];
-    print::bytes(b"- flows of ");
+    rollout::rollout_flows(n, 1.0, &table, &mut days, &mut amounts)
+}
+
+// The flows that a note pays.
+pub fn flows(c: Tally, n: Note, want: usize, number: u32) -> Tally {
+    print::bytes(b"- flows");
     print::note(n);
-    told::flows(
-        c,
-        rollout::rollout_flows(n, 1.0, &table, &mut days, &mut amounts),
-        number,
-    )
+    told::flows(c, flows_of(n), want, number)
 }

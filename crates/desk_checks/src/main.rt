@@ -129,9 +129,9 @@ fn limit_tables(c: Tally) -> Tally {
 fn limit_rates(c: Tally) -> Tally {
     let c = ask::accrued(c, b'-', rated(100.0), 20210415, 248.61878453038673, 0);
     let c = ask::accrued(c, b'-', rated(100.00000000000001), 20210415, 0.0, 15);
-    let c = ask::flows(c, rated(100.0), 0);
-    let c = ask::flows(c, rated(100.00000000000001), 15);
-    ask::flows(c, rated(-0.0), 15)
+    let c = ask::flows(c, rated(100.0), 3, 0);
+    let c = ask::flows(c, rated(100.00000000000001), 0, 15);
+    ask::flows(c, rated(-0.0), 0, 15)
 }
 
 // Months subtracted as u32.
@@ -149,12 +149,16 @@ fn slip_months(c: Tally) -> Tally {
     )
 }
 
-// `day as u8`, in a text and in a note; and a missing dot.
-fn slip_coupons(c: Tally) -> Tally {
-    let c = ask::coupon(c, b"1.07", 0);
+// `day as u8`, in a text and in a note.
+fn slip_coupon_days(c: Tally) -> Tally {
+    let c = ask::coupon(c, b"1.07", 107);
     let c = ask::coupon(c, b"257.07", 8);
-    let c = ask::flows(c, ask::note(4.0, 20210115, 20220115, 257, 6, b'M'), 8);
     let c = ask::coupon(c, b"29.02", 8);
+    ask::flows(c, ask::note(4.0, 20210115, 20220115, 257, 6, b'M'), 0, 8)
+}
+
+// A missing dot.
+fn slip_dots(c: Tally) -> Tally {
     let c = ask::coupon(c, b"15", 6);
     ask::coupon(c, b"1507", 6)
 }
@@ -166,10 +170,10 @@ fn still(unit: u8) -> Note {
 
 // A zero period, in a rollout, in accrued interest and in one ICMA fraction.
 fn slip_zero_periods(c: Tally) -> Tally {
-    let c = ask::flows(c, still(b'D'), 14);
-    let c = ask::flows(c, still(b'W'), 14);
-    let c = ask::flows(c, still(b'M'), 14);
-    let c = ask::flows(c, still(b'Y'), 14);
+    let c = ask::flows(c, still(b'D'), 0, 14);
+    let c = ask::flows(c, still(b'W'), 0, 14);
+    let c = ask::flows(c, still(b'M'), 0, 14);
+    let c = ask::flows(c, still(b'Y'), 0, 14);
     let c = ask::accrued(c, b'-', still(b'M'), 20210415, 0.0, 14);
     ask::icma(c, b'-', 0, 20220101, 20210301, 20210601, 0.0, 5)
 }
@@ -180,18 +184,27 @@ fn slip_range(c: Tally) -> Tally {
     let c = ask::step(c, b'-', 99991231, b'+', 1, b'W', 1);
     let c = ask::step(c, b'-', 10101, b'-', 1, b'D', 1);
     let c = ask::step(c, b'-', 10101, b'-', 1, b'W', 1);
-    let c = ask::flows(c, ask::note(4.0, 99990101, 99991231, 15, 200, b'D'), 1);
-    ask::flows(c, ask::note(4.0, 99990101, 99991231, 15, 30, b'W'), 1)
+    let c = ask::flows(c, ask::note(4.0, 99990101, 99991231, 15, 200, b'D'), 0, 1);
+    ask::flows(c, ask::note(4.0, 99990101, 99991231, 15, 30, b'W'), 0, 1)
+}
+
+fn card(c: Tally) -> Tally {
+    print::bytes(b"The desk card\n");
+    card_note(card_fractions(card_steps(c)))
+}
+
+fn limits(c: Tally) -> Tally {
+    print::bytes(b"The limits\n");
+    limit_rates(limit_tables(limit_days(c)))
+}
+
+fn slips(c: Tally) -> Tally {
+    print::bytes(b"The slips\n");
+    slip_range(slip_zero_periods(slip_dots(slip_coupon_days(slip_months(c)))))
 }
 
 fn main() {
-    let c = Tally { good: 0, wrong: 0 };
-    print::bytes(b"The desk card\n");
-    let c = card_note(card_fractions(card_steps(c)));
-    print::bytes(b"The limits\n");
-    let c = limit_rates(limit_tables(limit_days(c)));
-    print::bytes(b"The slips\n");
-    let c = slip_range(slip_zero_periods(slip_coupons(slip_months(c))));
+    let c = slips(limits(card(Tally { good: 0, wrong: 0 })));
     print::number(c.good as u64);
     print::bytes(b" as written, ");
     print::number(c.wrong as u64);

@@ -2,6 +2,7 @@
 use bond::Note;
 use calendar::Date;
 use coupon_date::CouponDate;
+use day_adjust::DayAdjust;
 use day_count_conv::DayCountConv;
 use libc::STDOUT_FILENO;
 use time_period::TimePeriod;
@@ -64,23 +65,33 @@ pub fn rule(c: DayCountConv) {
     }
 }
 
-// A rate is told from 100 even where four decimals do not show it.
+pub fn adjustment(r: DayAdjust) {
+    match r {
+        DayAdjust::Following => bytes(b"following "),
+        DayAdjust::Modified => bytes(b"modified "),
+        _ => bytes(b"another rule "),
+    }
+}
+
+// More than 100, even where four decimals do not show it.
 fn rate(x: f64) {
     if 100.0 < x {
-        bytes(b"above ");
+        byte(b'>');
     }
     amount(x);
 }
 
-// Its rate, issue, coupon date and period.
+// Its issue, coupon date, period and rate.
 pub fn note(n: Note) {
     let coupon_date = n.coupon_date;
     let coupon_period = n.period;
-    rate(n.rate);
-    bytes(b" percent from ");
+    bytes(b", issued ");
     date(n.issue_date);
     byte(b' ');
     coupon(coupon_date);
     byte(b' ');
     period(coupon_period);
+    byte(b' ');
+    rate(n.rate);
+    byte(b'%');
 }

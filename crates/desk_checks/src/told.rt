@@ -61,37 +61,37 @@ pub fn date(c: Tally, got: DateAnswer, want: u32) -> Tally {
     }
 }
 
-// Wanted is an f64 and 0, or 0.0 and a refusal's number; a zero or a NaN is never wanted, so that equal numbers have equal bits.
+// Wanted is an f64 and 0, or 0 and a refusal's number. No zero and no NaN is wanted, so that equal numbers have equal bits.
 pub fn amount(c: Tally, got: YearFraction, want: f64, number: u32) -> Tally {
     colon();
     match got {
         YearFraction::Fraction(x) => {
             print::amount(x);
-            ended(c, x == want)
+            ended(c, number == 0 && x == want)
         }
         YearFraction::Refused(n) => refused(c, n, number),
     }
 }
 
-// Wanted is a refusal's number, or 0 for any coupon date.
-pub fn coupon(c: Tally, got: CouponAnswer, number: u32) -> Tally {
+// Wanted is a day and two digits of a month, or a refusal's number.
+pub fn coupon(c: Tally, got: CouponAnswer, want: u32) -> Tally {
     colon();
     match got {
         CouponAnswer::Coupon(d) => {
             print::coupon(d);
-            ended(c, number == 0)
+            ended(c, d.day == want / 100 && d.month == want % 100)
         }
-        CouponAnswer::Refused(n) => refused(c, n, number),
+        CouponAnswer::Refused(n) => refused(c, n, want),
     }
 }
 
-// Wanted is a refusal's number, or 0 for any flows.
-pub fn flows(c: Tally, got: FlowsAnswer, number: u32) -> Tally {
+// Wanted is a count of flows and 0, or 0 and a refusal's number.
+pub fn flows(c: Tally, got: FlowsAnswer, want: usize, number: u32) -> Tally {
     colon();
     match got {
         FlowsAnswer::Flows(k) => {
             print::number(k as u64);
-            ended(c, number == 0)
+            ended(c, number == 0 && k == want)
         }
         FlowsAnswer::Refused(n) => refused(c, n, number),
     }

@@ -44,7 +44,7 @@ unrolled = record { roll = roll-date.Absent; period = roll-period.Absent }
 abbrev pub rolling : TimePeriod → Date → Extras
 rolling p roll = record { roll = roll-date.Date roll; period = roll-period.Period p }
 
--- a 4 percent note of 1000 EUR, issued 2021-01-15, coupon 15.07, 6M, 30E/360, modified, maturing 2022-01-15; 4 is 1 * 2^2
+-- a 4 percent note of 1000 EUR, issued 2021-01-15, coupon 15.07, 6M, 30E/360, modified, maturing 2022-01-15. 4 is 1 * 2^2; the paper gives no number, and 00417 is one
 abbrev pub theNote : Note
 theNote =
     record {

@@ -19,17 +19,17 @@ listed-requires c κs = search needs
 array-share-prefix-table : tie.Need-array-share-prefix-table
 array-share-prefix-table c = search needs
 
-slice-aggregate-adjusted : tie.Need-slice-aggregate-adjusted
-slice-aggregate-adjusted c = let l = c .before .listed in sym (most (l .result) (l .ensures))
+slice-aggregate-ask-adjusted : tie.Need-slice-aggregate-ask-adjusted
+slice-aggregate-ask-adjusted c = let l = c .before .listed in sym (most (l .result) (l .ensures))
 
-adjusted-requires : tie.Need-adjusted-requires
-adjusted-requires c κs = search needs
+ask-adjusted-requires : tie.Need-ask-adjusted-requires
+ask-adjusted-requires c κs = search needs
 
-slice-aggregate-adjusted-2 : tie.Need-slice-aggregate-adjusted-2
-slice-aggregate-adjusted-2 c = search needs
+slice-aggregate-ask-adjusted-2 : tie.Need-slice-aggregate-ask-adjusted-2
+slice-aggregate-ask-adjusted-2 c = search needs
 
-adjusted-requires-2 : tie.Need-adjusted-requires-2
-adjusted-requires-2 c κs = search needs
+ask-adjusted-requires-2 : tie.Need-ask-adjusted-requires-2
+ask-adjusted-requires-2 c κs = search needs
 
 returns : tie.Need-returns
 returns c = search needs
@@ -40,8 +40,8 @@ limit-tables-spec =
     (tie.spec
     listed-requires
     array-share-prefix-table
-    slice-aggregate-adjusted
-    adjusted-requires
-    slice-aggregate-adjusted-2
-    adjusted-requires-2
+    slice-aggregate-ask-adjusted
+    ask-adjusted-requires
+    slice-aggregate-ask-adjusted-2
+    ask-adjusted-requires-2
     returns)

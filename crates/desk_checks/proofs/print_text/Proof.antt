@@ -1,12 +1,11 @@
--- `desk_checks::print::text` is safe and ends: each byte is met once.
+-- `desk_checks::print_text` is safe and ends: each byte is met once.
 -- Assumes nothing.
 use Prim.Native.Nat.{_≤_, _-_}
-use mathlib.Core.Logic.{⊎-elim}
 use native.Mathlib.Omega.{arith}
 use lib.ListN.{length}
 use borrow.Author.Needs.{needs}
-use Rattle.desk_checks.proofs.print.text.Statement.{statement}
-use Rattle.desk_checks.proofs.print.text.Tie as tie
+use Rattle.desk_checks.proofs.print_text.Statement.{statement}
+use Rattle.desk_checks.proofs.print_text.Tie as tie
 
 abbrev Inv-loop : tie.InvT-loop
 Inv-loop s i₀ i = i ≤ length s
@@ -20,8 +19,8 @@ loop-holds c = omega arith
 shared-slice-read-b : tie.Need-shared-slice-read-b Inv-loop μ-loop
 shared-slice-read-b c = omega arith
 
-byte-requires : tie.Need-byte-requires Inv-loop μ-loop
-byte-requires c κs = search needs
+print-byte-requires : tie.Need-print-byte-requires Inv-loop μ-loop
+print-byte-requires c κs = search needs
 
 add-i : tie.Need-add-i Inv-loop μ-loop
 add-i c = omega arith
@@ -35,15 +34,15 @@ loop-again c = omega arith
 returns : tie.Need-returns Inv-loop μ-loop
 returns c = search needs
 
-pub text-spec : {M : Type 1} → statement M
-text-spec =
+pub print-text-spec : {M : Type 1} → statement M
+print-text-spec =
     tie.close
     (tie.spec
     Inv-loop
     μ-loop
     loop-holds
     shared-slice-read-b
-    byte-requires
+    print-byte-requires
     add-i
     loop-less
     loop-again

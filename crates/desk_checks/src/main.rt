@@ -61,7 +61,7 @@ fn print_date(t: Date) {
 
 fn print_period(p: TimePeriod) {
     let mut out = [0u8; 32];
-    time_period::write_period(p, &mut out);
+    period_text::write_period(p, &mut out);
     print_text(&out);
 }
 

@@ -24,7 +24,7 @@ use day_count_conv::RollPeriod;
 use day_count_conv::YearFraction;
 
 // How many flows the first pass keeps for the second: as many as a listing has places, for there is no heap to keep more.
-const KEPT: usize = 2000;
+pub const KEPT: usize = 2000;
 
 // What is due: the first coupon, what follows a coupon that ended on a date, or nothing more.
 pub enum Due {
@@ -167,16 +167,6 @@ pub fn collect(
             }
         }
     }
-}
-
-// Inner: how many flows there are, or the first refusal; none is kept.
-pub fn count(note: Note, position: f64, table: &[u32]) -> FlowsAnswer
-    requires { ⌜ Judged note position (now table) ⌝ }
-    ensures { λ r. ⌜ flowsOutcome r ≡ counted (noteFlows note position (now (table .entry))) ⌝ }
-{
-    let mut days = [0u32; 0];
-    let mut amounts = [0.0f64; 0];
-    collect(note, position, table, &mut days, &mut amounts)
 }
 
 // The first n days and amounts, in front of others.

@@ -1,10 +1,10 @@
 -- `rollout_records::answer_within` meets its contract: the note's checks, then its flows.
 -- Assumes nothing.
 use mathlib.Core.Path.{sym, _∙_, ap}
-use borrow.Author.Needs.{needs}
 use Rattle.bond.specs.Notes.{noteOutcome}
 use Rattle.rollout.proofs.Passes.{judged-by}
-use Rattle.rollout_records.proofs.Rolled.{note-refused}
+use Rattle.rollout_records.proofs.Rolled.{note-refused, flows-refused, none-kept}
+use borrow.Author.Needs.{needs}
 use Rattle.rollout_records.proofs.answer_within.Statement.{statement}
 use Rattle.rollout_records.proofs.answer_within.Tie as tie
 
@@ -20,11 +20,12 @@ check-note-with-requires c κs = search needs
 enum-told : tie.Need-enum-told
 enum-told c = search needs
 
-count-within-requires : tie.Need-count-within-requires
-count-within-requires c κs =
-    let k = c .before .before in
-    let s : tie.Start = k .before .before .before .before in
-    judged-by (s .args .note) (s .args .position) (s .args .table .now) _ _ _ (k .before .before .is-position .ensures) (k .before .is-table .ensures) (sym (k .check-note-with .ensures) ∙ ap noteOutcome (c .enum-told .given .1))
+collect-within-requires : tie.Need-collect-within-requires
+collect-within-requires c κs =
+    let e = c .before .before in
+    let k = e .before .before in
+    let s : tie.Start = c .before .before .before .before .before .before .before .before in
+    (judged-by (s .args .note) (s .args .position) (s .args .table .now) _ _ _ (k .before .before .is-position .ensures) (k .before .is-table .ensures) (sym (k .check-note-with .ensures) ∙ ap noteOutcome (e .enum-told .given .1)), (search needs, search needs))
 
 enum-known-k : tie.Need-enum-known-k
 enum-known-k c = search needs
@@ -37,7 +38,8 @@ returns-2 c =
     let e = c .before in
     let k = e .before .before in
     let s : tie.Start = k .before .before .before .before in
-    note-refused (s .args .note) (s .args .position) (s .args .table .now) (s .args .places) _ _ _ (k .before .before .is-position .ensures) (k .before .is-table .ensures) (sym (k .check-note-with .ensures) ∙ ap noteOutcome (e .k .given .1))
+    let r = sym (k .check-note-with .ensures) ∙ ap noteOutcome (e .k .given .1) in
+    (note-refused (s .args .note) (s .args .position) (s .args .table .now) (s .args .places) _ _ _ (k .before .before .is-position .ensures) (k .before .is-table .ensures) r, none-kept (s .args .note) (s .args .position) (s .args .table .now) (s .args .places) _ _ _ (flows-refused (s .args .note) (s .args .position) (s .args .table .now) (s .args .places) _ _ _ (k .before .before .is-position .ensures) (k .before .is-table .ensures) r))
 
 pub answer-within-spec : {M : Type 1} → statement M
 answer-within-spec =
@@ -47,7 +49,7 @@ answer-within-spec =
     is-table-requires
     check-note-with-requires
     enum-told
-    count-within-requires
+    collect-within-requires
     enum-known-k
     returns
     returns-2)

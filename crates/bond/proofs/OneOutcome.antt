@@ -5,8 +5,9 @@ use mathlib.Core.Bool.{Bool, true, not}
 use native.Mathlib.Omega.{arith}
 use lib.IntN.{pos}
 use lib.Signed.{leZ}
+use lib.Ieee.{Float}
 use Rattle.paper.specs.Outcome.{Numbered, both}
-use Rattle.paper.proofs.Outcomes.{given-injective, refused-injective, given-not-refused, unless-numbered, then-numbered}
+use Rattle.paper.proofs.Outcomes.{given-injective, refused-injective, given-not-refused, unless-numbered, then-numbered, one-value}
 use Rattle.calendar.specs.Dates.{isDate}
 use Rattle.calendar.specs.declared.DateAnswer.{DateAnswer}
 use Rattle.calendar.proofs.OneOutcome.{same-date-answer}
@@ -15,8 +16,9 @@ use Rattle.time_period.specs.Steps.{needsTable}
 use Rattle.coupon_date.specs.Coupons.{couponDate}
 use Rattle.coupon_date.proofs.OneOutcome.{new-numbered}
 use Rattle.cash_amount.specs.Amounts.{isCurrency}
-use Rattle.bond.specs.Notes.{noteOutcome, isNoteNumber, isRate, periodChecks, termChecks, noteChecks, inYearOf, firstCouponEnd, ChecksPromise, NotePromise, FirstEndPromise}
+use Rattle.bond.specs.Notes.{noteOutcome, isNoteNumber, isRate, isPosition, interestOn, nominalOf, couponAmount, periodChecks, termChecks, noteChecks, inYearOf, firstCouponEnd, ChecksPromise, NotePromise, FirstEndPromise}
 use Rattle.bond.specs.declared.Note.{Note}
+use Rattle.bond.specs.declared.NoteNumber.{NoteNumber}
 use Rattle.bond.specs.declared.NoteAnswer.{NoteAnswer}
 use Rattle.bond.specs.declared.NoteAnswer.the-variants as note-answer
 
@@ -50,3 +52,22 @@ checks-numbered position table n =
 pub first-end-numbered : (n : Note) → Numbered (firstCouponEnd n)
 unfolding firstCouponEnd inYearOf existingDate
 first-end-numbered n = unless-numbered (isDate _) 1 _ (omega arith) (omega arith)
+
+-- and of the promises that are equations
+pub one-is-note-number : (n : NoteNumber) (r s : Bool) → r ≡ isNoteNumber n → s ≡ isNoteNumber n → r ≡ s
+one-is-note-number n r s p q = one-value r s p q
+
+pub one-is-rate : (x : Float) (r s : Bool) → r ≡ isRate x → s ≡ isRate x → r ≡ s
+one-is-rate x r s p q = one-value r s p q
+
+pub one-is-position : (x : Float) (r s : Bool) → r ≡ isPosition x → s ≡ isPosition x → r ≡ s
+one-is-position x r s p q = one-value r s p q
+
+pub one-interest : (nominal rate fraction r s : Float) → r ≡ interestOn nominal rate fraction → s ≡ interestOn nominal rate fraction → r ≡ s
+one-interest nominal rate fraction r s p q = one-value r s p q
+
+pub one-nominal : (position : Float) (n : Note) (r s : Float) → r ≡ nominalOf position n → s ≡ nominalOf position n → r ≡ s
+one-nominal position n r s p q = one-value r s p q
+
+pub one-coupon-amount : (position : Float) (n : Note) (fraction r s : Float) → r ≡ couponAmount position n fraction → s ≡ couponAmount position n fraction → r ≡ s
+one-coupon-amount position n fraction r s p q = one-value r s p q

@@ -1,6 +1,6 @@
 -- Dates and serial days: the bounds of a date, and that each is found again from the other.
 -- Assumes nothing.
-use Prim.Native.Nat.{ℕ, suc, _+_, _-_, _*_, _/_, _%_, _≤_, _<_}
+use Prim.Native.Nat.{ℕ, zero, suc, _+_, _-_, _*_, _/_, _%_, _≤_, _<_}
 use mathlib.Core.Path.{_≡_, sym, _∙_, ap}
 use mathlib.Core.Bool.{true}
 use native.Mathlib.Omega.{arith}
@@ -158,10 +158,11 @@ unfolding yearOf
 year-at n y h k p q = unit-at yearLength 9999 1 y n h (omega arith) (omega (arith, before-one)) (omega (arith, before-one))
 
 -- the year of a serial day, from its cycle and its year within the cycle
-pub year-in-cycle : (n k : ℕ) → 1 ≤ n → n ≤ 3652059 → beforeYear (suc k) < (n - 1) % 146097 + 1 → (n - 1) % 146097 + 1 ≤ beforeYear (suc (suc k)) → (n - 1) / 146097 * 400 + k + 1 ≡ yearOf n
-year-in-cycle n k h l p q =
+pub year-in-cycle : (n r : ℕ) → 1 ≤ n → n ≤ 3652059 → 1 ≤ r → beforeYear r < (n - 1) % 146097 + 1 → (n - 1) % 146097 + 1 ≤ beforeYear (suc r) → (n - 1) / 146097 * 400 + r ≡ yearOf n
+year-in-cycle n zero h l f p q = absurd (omega arith)
+year-in-cycle n (suc k) h l f p q =
     let c = (n - 1) / 146097 in
-    let y = c * 400 + k + 1 in
+    let y = c * 400 + suc k in
     let e : y ≡ 400 * c + suc k = omega arith in
     let g : suc y ≡ 400 * c + suc (suc k) = omega arith in
     let a : beforeYear y ≡ 146097 * c + beforeYear (suc k) = ap beforeYear e ∙ cycle c k in

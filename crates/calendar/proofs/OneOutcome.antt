@@ -2,11 +2,12 @@
 -- Assumes nothing.
 use Prim.Native.Nat.{_+_}
 use mathlib.Core.Path.{_≡_, sym, _∙_, ap}
+use mathlib.Core.Bool.{Bool}
 use native.Mathlib.Omega.{arith}
 use lib.Dec.{leb}
 use Rattle.paper.specs.Outcome.{Numbered, both}
-use Rattle.paper.proofs.Outcomes.{given-injective, refused-injective, given-not-refused, unless-numbered}
-use Rattle.calendar.specs.Dates.{isDate, isDay}
+use Rattle.paper.proofs.Outcomes.{given-injective, refused-injective, given-not-refused, unless-numbered, one-value}
+use Rattle.calendar.specs.Dates.{isDate, isDay, isBefore, isSame}
 use Rattle.calendar.specs.Answers.{dayOutcome, daysOutcome, dateOutcome, weekdayOutcome, dayOf, dateOf, weekdayOf, daysBetween, dayAfter, DayOfPromise, DateOfPromise, WeekdayPromise, DaysBetweenPromise, DayAfterPromise}
 use Rattle.calendar.specs.declared.Day.{Day}
 use Rattle.calendar.specs.declared.Days.{Days}
@@ -45,6 +46,18 @@ same-weekday-answer (weekday-answer.Refused m) (weekday-answer.Weekday b) e = ab
 same-weekday-answer (weekday-answer.Refused m) (weekday-answer.Refused n) e = ap weekday-answer.Refused (refused-injective e)
 
 -- one answer to each question
+pub one-is-date : (t : Date) (r s : Bool) → r ≡ isDate t → s ≡ isDate t → r ≡ s
+one-is-date t r s p q = one-value r s p q
+
+pub one-is-day : (d : Day) (r s : Bool) → r ≡ isDay d → s ≡ isDay d → r ≡ s
+one-is-day d r s p q = one-value r s p q
+
+pub one-is-before : (a b : Date) (r s : Bool) → r ≡ isBefore a b → s ≡ isBefore a b → r ≡ s
+one-is-before a b r s p q = one-value r s p q
+
+pub one-is-same : (a b : Date) (r s : Bool) → r ≡ isSame a b → s ≡ isSame a b → r ≡ s
+one-is-same a b r s p q = one-value r s p q
+
 pub one-day-of : (t : Date) (r s : DayAnswer) → DayOfPromise t r → DayOfPromise t s → r ≡ s
 one-day-of t r s p q = same-day-answer r s (p ∙ sym q)
 

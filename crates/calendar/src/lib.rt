@@ -114,24 +114,13 @@ pub fn day_of(t: Date) -> DayAnswer
     }
 }
 
-// The year of a serial day, by halving the years of its cycle. The table is taken once.
+// The year of a serial day: the cycles before it, and the year within its own.
 fn year_of(n: u32) -> u32
     requires { ⌜ (1 ≤ n) × (n ≤ 3652059) ⌝ }
     ensures { λ r. ⌜ r ≡ yearOf n ⌝ }
 {
     let e = (n - 1) % DAYS_OF_CYCLE + 1;
-    let first = gregorian::first_of_years();
-    let mut lo: u32 = 0;
-    let mut hi: u32 = 400;
-    while lo + 1 < hi {
-        let mid = (lo + hi) / 2;
-        if first[mid as usize] <= e {
-            lo = mid;
-        } else {
-            hi = mid;
-        }
-    }
-    (n - 1) / DAYS_OF_CYCLE * 400 + lo + 1
+    (n - 1) / DAYS_OF_CYCLE * 400 + gregorian::year_in_cycle(e)
 }
 
 // The e-th day of a year. No month has more than 32 days, and none less than 28: the month guessed is the right one or the one before it.

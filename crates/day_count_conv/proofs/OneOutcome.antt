@@ -8,7 +8,7 @@ use lib.Dec.{ltb}
 use lib.IntN.{pos}
 use lib.Signed.{leZ}
 use Rattle.paper.specs.Outcome.{given, Numbered, both}
-use Rattle.paper.proofs.Outcomes.{given-injective, refused-injective, given-not-refused, unless-numbered, then-numbered}
+use Rattle.paper.proofs.Outcomes.{given-injective, refused-injective, given-not-refused, unless-numbered, then-numbered, one-value}
 use Rattle.calendar.specs.Dates.{isDate, isBefore}
 use Rattle.calendar.specs.declared.Date.{Date}
 use Rattle.time_period.specs.Periods.{frequencyOf}
@@ -80,6 +80,9 @@ module _ {A : Type 0} (v : Values A) (start end : Date) where
 pub convention-numbered : (n : ℕ) → Numbered (conventionOf n)
 unfolding conventionOf
 convention-numbered n = unless-numbered (ltb n 6) 18 _ (omega arith) (omega arith)
+
+pub one-code-of : (c : DayCountConv) (r s : ℕ) → r ≡ codeOf c → s ≡ codeOf c → r ≡ s
+one-code-of c r s p q = one-value r s p q
 
 -- a convention's code is read back as that convention
 pub code-back : (c : DayCountConv) → conventionOf (codeOf c) ≡ given c

@@ -52,12 +52,6 @@ pub last-day : beforeYear 10000 ≡ 3652059
 unfolding before yearLength leap
 last-day = cycle 24 399
 
--- the years before the year y, of which there are y - 1
-pub by-cycles : (y : ℕ) → 1 ≤ y → beforeYear y ≡ 146097 * ((y - 1) / 400) + beforeYear (suc ((y - 1) % 400))
-by-cycles y h =
-    let e : y ≡ 400 * ((y - 1) / 400) + suc ((y - 1) % 400) = omega arith in
-    ap beforeYear e ∙ cycle ((y - 1) / 400) ((y - 1) % 400)
-
 by-rule : (n : ℕ) (b c d : Bool) → eqb (suc n % 100) 0 ≡ b → eqb (suc n % 400) 0 ≡ c → eqb (suc n % 4) 0 ≡ d → yearLength (suc n) ≡ pick (pick b c d) 366 365
 unfolding yearLength leap
 by-rule n b c d p q r = rw (p, q, r)

@@ -460,20 +460,30 @@ pub fn length_of_year(year: u32) -> u32
     if is_leap(year) { 366 } else { 365 }
 }
 
-// Inner: the whole table. Each call writes it out, so that a search takes it once and then reads it.
-pub fn first_of_years() -> [u32; 400]
+// The whole table. Each call writes it out, so that a search takes it once and then reads it.
+fn first_of_years() -> [u32; 400]
     ensures { λ r. ⌜ ((k : ℕ) → k < 400 → getD r k 0 ≡ beforeYear (suc k) + 1) ⌝ }
 {
     FIRST_OF_YEAR
 }
 
-// Inner: the serial day of 1 January of the year k + 1, in the first cycle.
-pub fn first_of_year(k: u32) -> u32
-    requires { ⌜ k < 400 ⌝ }
-    ensures { λ r. ⌜ r ≡ beforeYear (suc k) + 1 ⌝ }
+// Inner: the year that the e-th day of a cycle falls in, by halving.
+pub fn year_in_cycle(e: u32) -> u32
+    requires { ⌜ (1 ≤ e) × (e ≤ 146097) ⌝ }
+    ensures { λ r. ⌜ (1 ≤ r) × (r ≤ 400) × (beforeYear r < e) × (e ≤ beforeYear (suc r)) ⌝ }
 {
     let first = first_of_years();
-    first[k as usize]
+    let mut lo: u32 = 0;
+    let mut hi: u32 = 400;
+    while lo + 1 < hi {
+        let mid = (lo + hi) / 2;
+        if first[mid as usize] <= e {
+            lo = mid;
+        } else {
+            hi = mid;
+        }
+    }
+    lo + 1
 }
 
 // Inner: the days before 1 January of a year of the calendar.

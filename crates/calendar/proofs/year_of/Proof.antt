@@ -1,100 +1,35 @@
--- `calendar::year_of` meets its contract: the years of the cycle are halved, and the table says on which side the day lies.
+-- `calendar::year_of` meets its contract: the cycles before the day, and the year within its own.
 -- Assumes nothing.
-use Prim.Native.Nat.{suc, _+_, _-_, _/_, _≤_, _<_}
-use mathlib.Core.Path.{_≡_}
 use native.Mathlib.Omega.{arith}
 use borrow.Author.Needs.{needs}
-use Rattle.gregorian.specs.Gregorian.{beforeYear}
 use Rattle.calendar.proofs.Dates.{year-in-cycle}
-use Rattle.gregorian.proofs.Years.{before-one, whole}
 use Rattle.calendar.proofs.year_of.Statement.{statement}
 use Rattle.calendar.proofs.year_of.Tie as tie
 
-abbrev Inv-loop : tie.InvT-loop
-Inv-loop n e first lo₀ hi₀ lo hi = (lo < hi) × (hi ≤ 400) × (beforeYear (suc lo) < e) × (e ≤ beforeYear (suc hi))
+sub-e : tie.Need-sub-e
+sub-e c = search needs
 
-abbrev μ-loop : tie.MeasureT-loop
-μ-loop n e first lo₀ hi₀ lo hi = hi - lo
+add-e : tie.Need-add-e
+add-e c = search needs
 
-sub-e : tie.Need-sub-e Inv-loop μ-loop
-sub-e c = omega arith
+sub-result : tie.Need-sub-result
+sub-result c = search needs
 
-add-e : tie.Need-add-e Inv-loop μ-loop
-add-e c = omega arith
+mul-result : tie.Need-mul-result
+mul-result c = search needs
 
-first-of-years-requires : tie.Need-first-of-years-requires Inv-loop μ-loop
-first-of-years-requires c κs = search needs
+year-in-cycle-requires : tie.Need-year-in-cycle-requires
+year-in-cycle-requires c κs = search needs
 
-loop-holds : tie.Need-loop-holds Inv-loop μ-loop
-loop-holds c = omega (arith, before-one, whole)
+add-result : tie.Need-add-result
+add-result c = let f = c .year-in-cycle .ensures in omega (arith, f .1)
 
-add-loop : tie.Need-add-loop Inv-loop μ-loop
-add-loop c = omega arith
-
-add-mid : tie.Need-add-mid Inv-loop μ-loop
-add-mid c = omega arith
-
-cast-if1 : tie.Need-cast-if1 Inv-loop μ-loop
-cast-if1 c = search needs
-
-mul-if1 : tie.Need-mul-if1 Inv-loop μ-loop
-mul-if1 c = search needs
-
-array-read-if1 : tie.Need-array-read-if1 Inv-loop μ-loop
-array-read-if1 c = search needs
-
-loop-less : tie.Need-loop-less Inv-loop μ-loop
-loop-less c = omega arith
-
-loop-again : tie.Need-loop-again Inv-loop μ-loop
-loop-again c = let l = c .before .before .loop in omega (arith, c .before .before .before .first-of-years .ensures ((l .lo + l .hi) / 2) (omega arith))
-
-loop-less-2 : tie.Need-loop-less-2 Inv-loop μ-loop
-loop-less-2 c = omega arith
-
-loop-again-2 : tie.Need-loop-again-2 Inv-loop μ-loop
-loop-again-2 c = let l = c .before .before .loop in omega (arith, c .before .before .before .first-of-years .ensures ((l .lo + l .hi) / 2) (omega arith))
-
-sub-result : tie.Need-sub-result Inv-loop μ-loop
-sub-result c = omega arith
-
-mul-result : tie.Need-mul-result Inv-loop μ-loop
-mul-result c = omega arith
-
-add-result : tie.Need-add-result Inv-loop μ-loop
-add-result c = omega arith
-
-add-result-2 : tie.Need-add-result-2 Inv-loop μ-loop
-add-result-2 c = omega arith
-
-returns : tie.Need-returns Inv-loop μ-loop
+returns : tie.Need-returns
 returns c =
-    let l = c .before .loop in
-    let n = c .before .before .before .args .n in
-    let e : l .hi ≡ suc (l .lo) = omega arith in
-    year-in-cycle n (l .lo) (omega arith) (omega arith) (l .inv .2) (rw e at (l .inv .3))
+    let f = c .year-in-cycle .ensures in
+    year-in-cycle (c .before .args .n) _ (c .before .pre .0) (c .before .pre .1) (f .0) (f .2) (f .3)
 
 pub year-of-spec : {M : Type 1} → statement M
 year-of-spec =
     tie.close
-    (tie.spec
-    Inv-loop
-    μ-loop
-    sub-e
-    add-e
-    first-of-years-requires
-    loop-holds
-    add-loop
-    add-mid
-    cast-if1
-    mul-if1
-    array-read-if1
-    loop-less
-    loop-again
-    loop-less-2
-    loop-again-2
-    sub-result
-    mul-result
-    add-result
-    add-result-2
-    returns)
+    (tie.spec sub-e add-e sub-result mul-result year-in-cycle-requires add-result returns)

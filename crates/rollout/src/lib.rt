@@ -23,8 +23,8 @@ use day_count_conv::RollDate;
 use day_count_conv::RollPeriod;
 use day_count_conv::YearFraction;
 
-// How many flows the first pass keeps for the second: as many as a listing has places, for there is no heap to keep more.
-pub const KEPT: usize = 2000;
+// How many flows the first pass keeps for the second: 21 years of months. There is no heap, and more would cost a short note too much to clear.
+pub const KEPT: usize = 256;
 
 // What is due: the first coupon, what follows a coupon that ended on a date, or nothing more.
 pub enum Due {

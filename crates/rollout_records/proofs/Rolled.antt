@@ -77,7 +77,7 @@ module _ (n : Note) (position : Float) (table : List ℕ) (places : ℕ) where
   none-kept days amounts k e = record { hold = λ l g h. absurd (given-not-refused (sym g ∙ e)) }
 
 module _ (n : Note) (position : Float) (table : List ℕ) (j : Judged n position table) where
-  pub all-kept : (days days′ : List ℕ) (amounts amounts′ : List Float) → length days ≡ 2000 → length amounts ≡ 2000 → Kept n position table days amounts days′ amounts′ → KeptAll n position table days′ amounts′
+  pub all-kept : (days days′ : List ℕ) (amounts amounts′ : List Float) → length days ≡ 256 → length amounts ≡ 256 → Kept n position table days amounts days′ amounts′ → KeptAll n position table days′ amounts′
   all-kept days days′ amounts amounts′ ld la k = record {
     hold = λ l g h.
         let e : noteFlows n position table ≡ given l = sym (all-flows n position table j) ∙ g in
@@ -120,8 +120,8 @@ module _ (n : Note) (position : Float) (table days : List ℕ) (amounts : List F
   unfolding flow-k
   of-note = every-at (OfNote n) (c .flows) k any (flows-of n position table (judged-note n position table (c .judged)) (c .flows) (c .are) .0) inside
 
-  module _ (f : count ≤ 2000) where
-    pub kept-long : k < 2000
+  module _ (f : count ≤ 256) where
+    pub kept-long : k < 256
     kept-long = omega arith
 
     kept-day : getD days k 0 ≡ dayOf flow-k
@@ -154,7 +154,7 @@ module _ (n : Note) (position : Float) (table days : List ℕ) (amounts : List F
       due = λ l g m. absurd (omega arith);
     }
 
-  module _ (f : 2000 < count) where
+  module _ (f : 256 < count) where
     pub still-dated : Dated due
     still-dated = c .next f .0
 
@@ -192,7 +192,7 @@ pub record Rolling (n : Note) (position : Float) (table : List ℕ) (old : List 
   pub out : List CashFlow
   pub within : k ≤ length (toWrite n position table old)
   pub filled : Filled (toWrite n position table old) old k (drop k (toWrite n position table old)) out
-  pub next : 2000 < length (toWrite n position table old) → k < length (toWrite n position table old) → Dated (paid .next) × (flowsDue n position table (paid .next) ≡ given (drop k (toWrite n position table old)))
+  pub next : 256 < length (toWrite n position table old) → k < length (toWrite n position table old) → Dated (paid .next) × (flowsDue n position table (paid .next) ≡ given (drop k (toWrite n position table old)))
 
 fitting-given : (places : ℕ) (o : Outcome (List CashFlow)) (l : List CashFlow) → fitting places o ≡ given l → (o ≡ given l) × (length l ≤ places)
 fitting-given places (given m) l e =
@@ -255,7 +255,7 @@ module _ (n : Note) (position : Float) (table : List ℕ) (old : List CashFlow) 
           filled-more (toWrite n position table old) old (t .k) (r .flow) (drop (t .k + 1) (toWrite n position table old)) (t .out) k-inside
           (subst (λ (m : List CashFlow). Filled (toWrite n position table old) old (t .k) m (t .out)) (came .flow (toWrite n position table old) (all-given (omega arith) .1)) (t .filled))
 
-      pub rolling-next : 2000 < length (toWrite n position table old) → Dated (r .next) × (flowsDue n position table (r .next) ≡ given (drop (t .k + 1) (toWrite n position table old)))
+      pub rolling-next : 256 < length (toWrite n position table old) → Dated (r .next) × (flowsDue n position table (r .next) ≡ given (drop (t .k + 1) (toWrite n position table old)))
       rolling-next f = came .due (toWrite n position table old) (all-given (omega arith) .1) f
 
       pub rolling-within : t .k + 1 ≤ length (toWrite n position table old)

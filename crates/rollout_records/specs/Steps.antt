@@ -19,7 +19,7 @@ writtenOf (refused k) = 0
 
 -- where flows are given, and no more than are kept, their days and amounts stand in front
 pub record KeptAll (n : Note) (position : Float) (table days : List ℕ) (amounts : List Float) : Type 0 where
-  pub hold : (l : List CashFlow) → cashFlows n position table ≡ given l → length l ≤ 2000 → (take (length l) days ≡ map dayOf l) × (take (length l) amounts ≡ map amountOf l)
+  pub hold : (l : List CashFlow) → cashFlows n position table ≡ given l → length l ≤ 256 → (take (length l) days ≡ map dayOf l) × (take (length l) amounts ≡ map amountOf l)
 
 -- all was judged and given, and flow k is to come: kept, or due where there are more than are kept
 pub record Coming (n : Note) (position : Float) (table days : List ℕ) (amounts : List Float) (count k : ℕ) (due : Due) : Type 0 where
@@ -27,10 +27,10 @@ pub record Coming (n : Note) (position : Float) (table days : List ℕ) (amounts
   pub flows : List CashFlow
   pub are : noteFlows n position table ≡ given flows
   pub many : length flows ≡ count
-  pub kept : count ≤ 2000 → (take count days ≡ map dayOf flows) × (take count amounts ≡ map amountOf flows)
-  pub next : 2000 < count → Dated due × (flowsDue n position table due ≡ given (drop k flows))
+  pub kept : count ≤ 256 → (take count days ≡ map dayOf flows) × (take count amounts ≡ map amountOf flows)
+  pub next : 256 < count → Dated due × (flowsDue n position table due ≡ given (drop k flows))
 
 -- flow k came, and what is due after it
 pub record Came (n : Note) (position : Float) (table : List ℕ) (count k : ℕ) (x : CashFlow) (next : Due) : Type 0 where
   pub flow : (l : List CashFlow) → noteFlows n position table ≡ given l → drop k l ≡ x ∷ drop (k + 1) l
-  pub due : (l : List CashFlow) → noteFlows n position table ≡ given l → 2000 < count → Dated next × (flowsDue n position table next ≡ given (drop (k + 1) l))
+  pub due : (l : List CashFlow) → noteFlows n position table ≡ given l → 256 < count → Dated next × (flowsDue n position table next ≡ given (drop (k + 1) l))

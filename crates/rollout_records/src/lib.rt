@@ -32,7 +32,7 @@ fn collect_within(
     amounts: &mut [f64],
 ) -> FlowsAnswer
     requires { ⌜ Judged note position (now table) ⌝ }
-    requires { ⌜ (length (now days) ≡ 2000) × (length (now amounts) ≡ 2000) ⌝ }
+    requires { ⌜ (length (now days) ≡ 256) × (length (now amounts) ≡ 256) ⌝ }
     ensures { λ r. ⌜ flowsOutcome r ≡ counted (recordsFitted note position (now (table .entry)) places) ⌝ }
     ensures { λ _. ⌜ KeptAll note position (now (table .entry)) (now (days .exit)) (now (amounts .exit)) ⌝ }
 {

@@ -130,10 +130,10 @@ room-slice = sliceTy (tyRef (named 1) mut (pointee (T.the-row .written)))
 
 -- the kept days and amounts: their arrays, and the references to them
 abbrev Days : RattleType
-Days = Array u32 2000
+Days = Array u32 256
 
 abbrev Amounts : RattleType
-Amounts = Array f64 2000
+Amounts = Array f64 256
 
 abbrev days-array : Ty
 days-array = lone (Days .mir)
@@ -160,10 +160,10 @@ abbrev amounts-vals : List Float → List Val
 amounts-vals = array-vals (float-vals binary64)
 
 days-tells : Tells Days (Is Days) days-vals
-days-tells = array-tells u32 (uint-vals w32) (uint-tells w32) 2000
+days-tells = array-tells u32 (uint-vals w32) (uint-tells w32) 256
 
 amounts-tells : Tells Amounts (Is Amounts) amounts-vals
-amounts-tells = array-tells f64 (float-vals binary64) (float-tells binary64) 2000
+amounts-tells = array-tells f64 (float-vals binary64) (float-tells binary64) 256
 
 -- what follows the first part of a sequence: by it a walk names a piece of the code, and does not write it out
 abbrev rest-of : Body → Body
@@ -250,13 +250,13 @@ module _ {M : Type 1} (𝓤 : URA M) (H : Heap 𝓤) (A : Atoms 𝓤) (W : Given
 
   -- an array in its local, and its elements in memory
   days-typed : (z : List ℕ) (u : Val) → Is Days z (u ∷ []) → Holds (hasTy days-array u) × WT u
-  days-typed z u is = array-lawful 𝓤 H A W u32 (uint-lawful 𝓤 H A W w32) 2000 .typed z (u ∷ []) is .0
+  days-typed z u is = array-lawful 𝓤 H A W u32 (uint-lawful 𝓤 H A W w32) 256 .typed z (u ∷ []) is .0
 
   days-in : (z : List ℕ) (u : Val) → Is Days z (u ∷ []) → (l : ℕ) → ent 𝓤 (sem 𝓤 H A (fat fullShare days-array l 0 u)) (sem 𝓤 H A (partAt Days fullShare z l 0))
   unfolding partOf
   days-in z u is l =
       qed W (‵ (fat fullShare days-array l 0 u) ∷ []) ∵ use1 W (‵ (cellAt fullShare (Days .mir) (u ∷ []) l 0)) (W .laws .at-raw fullShare days-array l 0 u) $
-      owned ! Days (Is Days) (array-makes 𝓤 H A W u32 (uint-makes 𝓤 H A W w32) 2000) z (u ∷ []) is $ move ! (1 ∷ 0 ∷ []) $ fjoin ! $
+      owned ! Days (Is Days) (array-makes 𝓤 H A W u32 (uint-makes 𝓤 H A W w32) 256) z (u ∷ []) is $ move ! (1 ∷ 0 ∷ []) $ fjoin ! $
       fpack ! (List Val) (λ vs. fsep (cellAt fullShare (Days .mir) vs l 0) (Days .own z vs)) (u ∷ []) $ done !
 
   days-out : (z : List ℕ) (l : ℕ) → ent 𝓤 (sem 𝓤 H A (partAt Days fullShare z l 0)) (sem 𝓤 H A (fat fullShare days-array l 0 (only (days-vals z))))
@@ -266,13 +266,13 @@ module _ {M : Type 1} (𝓤 : URA M) (H : Heap 𝓤) (A : Atoms 𝓤) (W : Given
       fpick ! (λ vs. fsplit ! $ spelt ! Days (Is Days) (shows 𝓤 H A Days) days-vals days-tells fullShare z vs l 0 $ keep ! (0 ∷ []) $ by ! (W .laws .raw-at fullShare days-array l 0 (only (days-vals z))))
 
   amounts-typed : (z : List Float) (u : Val) → Is Amounts z (u ∷ []) → Holds (hasTy amounts-array u) × WT u
-  amounts-typed z u is = array-lawful 𝓤 H A W f64 (float-lawful 𝓤 H A W binary64) 2000 .typed z (u ∷ []) is .0
+  amounts-typed z u is = array-lawful 𝓤 H A W f64 (float-lawful 𝓤 H A W binary64) 256 .typed z (u ∷ []) is .0
 
   amounts-in : (z : List Float) (u : Val) → Is Amounts z (u ∷ []) → (l : ℕ) → ent 𝓤 (sem 𝓤 H A (fat fullShare amounts-array l 0 u)) (sem 𝓤 H A (partAt Amounts fullShare z l 0))
   unfolding partOf
   amounts-in z u is l =
       qed W (‵ (fat fullShare amounts-array l 0 u) ∷ []) ∵ use1 W (‵ (cellAt fullShare (Amounts .mir) (u ∷ []) l 0)) (W .laws .at-raw fullShare amounts-array l 0 u) $
-      owned ! Amounts (Is Amounts) (array-makes 𝓤 H A W f64 (float-makes 𝓤 H A W binary64) 2000) z (u ∷ []) is $ move ! (1 ∷ 0 ∷ []) $ fjoin ! $
+      owned ! Amounts (Is Amounts) (array-makes 𝓤 H A W f64 (float-makes 𝓤 H A W binary64) 256) z (u ∷ []) is $ move ! (1 ∷ 0 ∷ []) $ fjoin ! $
       fpack ! (List Val) (λ vs. fsep (cellAt fullShare (Amounts .mir) vs l 0) (Amounts .own z vs)) (u ∷ []) $ done !
 
   amounts-out : (z : List Float) (l : ℕ) → ent 𝓤 (sem 𝓤 H A (partAt Amounts fullShare z l 0)) (sem 𝓤 H A (fat fullShare amounts-array l 0 (only (amounts-vals z))))

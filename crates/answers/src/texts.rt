@@ -1,0 +1,107 @@
+// Verbs 23 to 28, 31 to 34, 39 to 43, 55 and 56: what is read from text or written as text.
+use crate::fields;
+use crate::lent;
+use crate::line;
+use crate::line::Told;
+use day_count_conv::ConventionAnswer;
+use text::LengthAnswer;
+use reading::NumberAnswer;
+use reading::SignedAnswer;
+use time_period::FrequencyAnswer;
+
+fn frequency(a: FrequencyAnswer) -> Told {
+    match a {
+        FrequencyAnswer::Frequency(n) => Told::Number(n as u64),
+        FrequencyAnswer::Refused(k) => Told::Refused(k),
+    }
+}
+
+fn code(a: ConventionAnswer) -> Told {
+    match a {
+        ConventionAnswer::Convention(rule) => Told::Number(day_count_conv::code_of(rule) as u64),
+        ConventionAnswer::Refused(k) => Told::Refused(k),
+    }
+}
+
+fn number(a: NumberAnswer) -> Told {
+    match a {
+        NumberAnswer::Number(n) => Told::Number(n as u64),
+        NumberAnswer::Refused(k) => Told::Refused(k),
+    }
+}
+
+fn signed(a: SignedAnswer) -> Told {
+    match a {
+        SignedAnswer::Number(n) => Told::Signed(n),
+        SignedAnswer::Refused(k) => Told::Refused(k),
+    }
+}
+
+fn length(a: LengthAnswer) -> Told {
+    match a {
+        LengthAnswer::Length(n) => Told::Number(n as u64),
+        LengthAnswer::Refused(k) => Told::Refused(k),
+    }
+}
+
+fn of_periods(verb: u8, f: &[u8]) -> Told {
+    let p = fields::period(f, 0);
+    let t = fields::date(f, 5);
+    match verb {
+        25 => frequency(time_period::frequency(p)),
+        26 => line::period(time_period::inverse(p)),
+        27 => line::date(time_period::add_to(p, t)),
+        _ => line::date(time_period::sub_from(p, t)),
+    }
+}
+
+pub(crate) fn told(verb: u8, f: &[u8]) -> Told {
+    match verb {
+        23 => line::period(period_text::read_period(f)),
+        31 => line::coupon(coupon_date::read_coupon_date(f)),
+        32 => line::coupon(coupon_date::new_coupon_date(fields::word(f, 0), fields::word(f, 4))),
+        34 => code(day_count_conv::convention_of(fields::word(f, 0))),
+        43 => length(cash_flow_text::cash_flow_length(fields::flow(f, 0))),
+        55 => number(reading::read_u32(f, paper::INVALID_PERIOD)),
+        56 => signed(reading::read_i32(f, paper::INVALID_PERIOD)),
+        _ => of_periods(verb, f),
+    }
+}
+
+fn write(verb: u8, f: &[u8], room: &mut [u8]) -> LengthAnswer {
+    match verb {
+        24 => period_text::write_period(fields::period(f, 0), room),
+        33 => coupon_date::write_coupon_date(fields::coupon(f, 0), room),
+        39 => cash_flow_text::write_date(fields::date(f, 0), room),
+        40 => cash_flow_text::write_amount(fields::float(f, 0), fields::currency(f, 8), room),
+        41 => cash_flow_text::write_cash_flow(fields::flow(f, 0), room),
+        _ => decimal::write_decimal(fields::float(f, 0), room),
+    }
+}
+
+fn at_most_64(n: usize) -> usize {
+    if n < 64 { n } else { 64 }
+}
+
+// How many places a verb asks for.
+fn places(verb: u8, f: &[u8]) -> usize {
+    match verb {
+        24 => at_most_64(fields::places(f, 5)),
+        33 => at_most_64(fields::places(f, 8)),
+        39 => fields::places(f, 12),
+        40 => fields::places(f, 11),
+        41 => fields::places(f, 23),
+        _ => fields::places(f, 8),
+    }
+}
+
+fn write_in(verb: u8, f: &[u8], room: &mut [u8]) -> LengthAnswer {
+    let n = lent::bytes(places(verb, f), room);
+    write(verb, f, &mut room[..n])
+}
+
+pub(crate) fn put_written(verb: u8, f: &[u8], out: &mut [u8], at: usize) -> usize {
+    let mut room = [lent::BYTE; 512];
+    let answer = write_in(verb, f, &mut room);
+    line::put_written(answer, &room, out, at)
+}

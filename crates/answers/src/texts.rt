@@ -4,9 +4,9 @@ use crate::lent;
 use crate::line;
 use crate::line::Told;
 use day_count_conv::ConventionAnswer;
-use text::LengthAnswer;
 use reading::NumberAnswer;
 use reading::SignedAnswer;
+use text::LengthAnswer;
 use time_period::FrequencyAnswer;
 
 fn frequency(a: FrequencyAnswer) -> Told {

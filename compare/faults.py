@@ -1,0 +1,74 @@
+"""A fault in a copy of the register's code, one for each entry point, must be found by the questions.
+
+    faults.py ROOT WORK [NAME..]
+
+Each wrong edit of faults.txt is put into a copy of ROOT's crates in WORK, and `rt try` runs the program `answers` of that copy, unproved, on questions to
+that entry point. What document 01 answers is its `stdout`, so the run fails where an answer is another.
+"""
+import os
+import shutil
+import subprocess
+import sys
+
+import questions
+
+ASKED = 400
+MOST_BYTES = 60000
+
+
+def faults(root):
+    """NAME and the file, old and new text of its wrong edit."""
+    for line in open(os.path.join(root, "compare/faults.txt")):
+        if line.startswith("#"):
+            continue
+        name, edit = line.split()
+        crate, label = edit.split("/")
+        text = "\n" + open(os.path.join(root, "crates", crate, "must-fail", label + ".edit")).read()
+        file, old, new = (text.split("\n%s: " % word, 1)[1].split("\n")[0] for word in ("file", "old", "new"))
+        yield name, edit, os.path.join(crate, file), old, new
+
+
+def asked(name):
+    m = questions.Maker("fault/" + name)
+    for _, make in questions.RANDOM:
+        if make(m).name == name:
+            made, size = [], 0
+            while len(made) < ASKED and size < MOST_BYTES - 17000:
+                made.append(make(m))
+                size += len(made[-1].record)
+            return made
+    raise SystemExit("no question asks " + name)
+
+
+def found(root, work, name, path, old, new):
+    shutil.rmtree(work, ignore_errors=True)
+    os.makedirs(work)
+    shutil.copytree(os.path.join(root, "crates"), os.path.join(work, "crates"))
+    shutil.copy(os.path.join(root, "crates.txt"), work)
+    file = os.path.join(work, "crates", path)
+    text = open(file).read()
+    if text.count(old) != 1:
+        raise SystemExit("%s: the old text stands %d times in %s" % (name, text.count(old), path))
+    open(file, "w").write(text.replace(old, new))
+    made = asked(name)
+    with open(os.path.join(work, "crates/answers/stdin"), "wb") as f:
+        f.write(b"".join(q.record for q in made))
+    with open(os.path.join(work, "crates/answers/stdout"), "w") as f:
+        f.write("".join(q.expected + "\n" for q in made))
+    return subprocess.run(["rt", "try", "answers"], cwd=work, capture_output=True, text=True)
+
+
+def main():
+    root, work, only = os.path.abspath(sys.argv[1]), sys.argv[2], sys.argv[3:]
+    missed = 0
+    for name, edit, path, old, new in faults(root):
+        if only and name not in only:
+            continue
+        run = found(root, work, name, path, old, new)
+        missed += run.returncode == 0
+        print("%-28s %-34s %s" % (name, edit, "MISSED" if run.returncode == 0 else "found"), flush=True)
+    return 1 if missed else 0
+
+
+if __name__ == "__main__":
+    sys.exit(main())

@@ -5,7 +5,8 @@ use lib.IntN.{ℤ}
 use lib.Ieee.{Float, binary64, mul, div}
 use Rattle.paper.specs.Outcome.{given, refused}
 use Rattle.paper.proofs.Outcomes.{both-true}
-use Rattle.amount_rounding.specs.RoundedAmounts.{isWidth, isUpToBillion, isRoundable, powerOfTen, roundedAway, roundedBy, round2digitsOf}
+use Rattle.cash_amount.specs.Amounts.{upTo}
+use Rattle.amount_rounding.specs.RoundedAmounts.{isWidth, isRoundable, powerOfTen, roundedAway, roundedBy, round2digitsOf}
 
 pub answer-refused : (x : Float) (d : ℤ) → isRoundable x d ≡ false → refused 15 ≡ round2digitsOf x d
 unfolding round2digitsOf
@@ -17,4 +18,4 @@ answer-given x d w p h e f = rw (h, f, e)
 
 pub roundable-width : (x : Float) (d : ℤ) → isRoundable x d ≡ true → isWidth d ≡ true
 unfolding isRoundable
-roundable-width x d h = both-true (isWidth d) (isUpToBillion x) h .0
+roundable-width x d h = both-true (isWidth d) (upTo 1000000000 x) h .0

@@ -6,7 +6,7 @@ use mathlib.Core.Bool.{false}
 use lib.IntN.{pos, negsuc}
 use lib.Ieee.{Float, nan, inf, binary64, mul, div, ofInt, ofBits}
 use Rattle.paper.specs.Outcome.{given, refused}
-use Rattle.amount_rounding.specs.RoundedAmounts.{isUpToBillion, isRoundable, powerOfTen, nearestWhole, roundedAway, roundedBy, round2digitsOf}
+use Rattle.amount_rounding.specs.RoundedAmounts.{isRoundable, powerOfTen, nearestWhole, roundedAway, roundedBy, round2digitsOf}
 
 abbrev bits : ℕ → Float
 bits n = ofBits binary64 n
@@ -28,7 +28,7 @@ pub record Rounded : Type 0 where
   pub smallest : round2digitsOf (bits 1) (pos 4) ≡ given (bits 0)
 
 pub rounded : Rounded
-unfolding round2digitsOf roundedBy roundedAway nearestWhole powerOfTen isRoundable isUpToBillion ofBits ofInt mul div
+unfolding round2digitsOf roundedBy roundedAway nearestWhole powerOfTen isRoundable ofBits ofInt mul div
 rounded =
     record {
       half-up = refl;
@@ -53,7 +53,7 @@ pub record Limits : Type 0 where
   pub infinity : round2digitsOf (inf false) (pos 2) ≡ refused 15
 
 pub limits : Limits
-unfolding round2digitsOf roundedBy roundedAway nearestWhole powerOfTen isRoundable isUpToBillion ofBits ofInt mul div
+unfolding round2digitsOf roundedBy roundedAway nearestWhole powerOfTen isRoundable ofBits ofInt mul div
 limits =
     record {
       most = refl;

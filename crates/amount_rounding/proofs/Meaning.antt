@@ -17,13 +17,12 @@ use lib.Ieee.Positive.{num, den, den-pos}
 use lib.Ieee.Scale.{finite, round-same}
 use borrow.Author.Tests.{leb-true, ne-eqb}
 use Rattle.paper.proofs.Outcomes.{both-true}
-use Rattle.rounding.specs.Close.{numerator}
+use Rattle.cash_amount.specs.Amounts.{upTo}
 use Rattle.rounding.proofs.Algebra.{Apart}
 use Rattle.rounding.proofs.HalfUnit.{Rounded, round-near}
-use Rattle.rounding.proofs.Integers.{signed-parts}
 use Rattle.rounding.proofs.Near.{in-range}
 use Rattle.rounding.proofs.Operations.{by-value}
-use Rattle.amount_rounding.specs.RoundedAmounts.{isWidth, isUpToBillion, isRoundable, powerOfTen, nearestWhole, roundedAway, roundedBy}
+use Rattle.amount_rounding.specs.RoundedAmounts.{isWidth, isRoundable, powerOfTen, nearestWhole, roundedAway, roundedBy}
 use Rattle.amount_rounding.proofs.Whole.{nearest-near, nearest-tie}
 
 -- ---- any number below 2 ^ 52
@@ -73,15 +72,10 @@ power-value : (d : ℤ) → isWidth d ≡ true → HasValue (powerOfTen d) false
 unfolding powerOfTen ofInt
 power-value d h = round-whole binary64 false (10 ^ natAbs d) (le-trans (power-most d h) (lit≤ tt))
 
-amount-most : (s : Bool) (m : ℕ) (e : ℤ) → isUpToBillion (fin s m e) ≡ true → m * up e ≤ 1000000000 * down e
-unfolding isUpToBillion
-amount-most s m e h = rw (signed-parts s (m * up e) .2) at (leb-true (natAbs (numerator (fin s m e))) (1000000000 * down e) h)
-
-by-amount : (P : Float → Type 0) → ((s : Bool) (m : ℕ) (e : ℤ) → m * up e ≤ 1000000000 * down e → P (fin s m e)) → (x : Float) → isUpToBillion x ≡ true → P x
-unfolding isUpToBillion
+by-amount : (P : Float → Type 0) → ((s : Bool) (m : ℕ) (e : ℤ) → m * up e ≤ 1000000000 * down e → P (fin s m e)) → (x : Float) → upTo 1000000000 x ≡ true → P x
 by-amount P k nan h = absurd (true≢false (sym h))
 by-amount P k (inf s) h = absurd (true≢false (sym h))
-by-amount P k (fin s m e) h = k s m e (amount-most s m e h)
+by-amount P k (fin s m e) h = k s m e (leb-true (m * up e) (1000000000 * down e) h)
 
 own-sign : (s : Bool) → unlike s false ≡ s
 own-sign false = refl
@@ -221,7 +215,7 @@ module _ (d : ℤ) (width : isWidth d ≡ true) (s : Bool) (m : ℕ) (e : ℤ) (
 pub rounding-means : (x : Float) (d : ℤ) → isRoundable x d ≡ true → Rounding x d
 unfolding isRoundable
 rounding-means x d h =
-    let b = both-true (isWidth d) (isUpToBillion x) h in
+    let b = both-true (isWidth d) (upTo 1000000000 x) h in
     by-amount (λ (x : Float). Rounding x d) (λ s m e l. means d (b .0) s m e l) x (b .1)
 
 pub product-not-nan : (x : Float) (d : ℤ) → isRoundable x d ≡ true → T (not (isNan (mul binary64 x (powerOfTen d))))

@@ -6,10 +6,8 @@ use mathlib.Core.Bool.{Bool, false}
 use lib.Dec.{leb}
 use lib.IntN.{ℤ, pos, negsuc, natAbs}
 use lib.Ieee.{Float, nan, inf, fin, up, down, binary64, round, mul, div, ofInt}
-use lib.Ieee.Scale.{finite}
 use Rattle.paper.specs.Outcome.{Outcome, given, unless, both}
-use Rattle.rounding.specs.Close.{numerator, denominator}
-use Rattle.cash_amount.specs.Amounts.{amountOutcome}
+use Rattle.cash_amount.specs.Amounts.{upTo, amountOutcome}
 use Rattle.cash_amount.specs.declared.AmountAnswer.{AmountAnswer}
 
 -- 0 to 4 digits
@@ -17,12 +15,9 @@ abbrev pub isWidth : ℤ → Bool
 isWidth (pos n) = leb n 4
 isWidth (negsuc n) = false
 
--- amounts up to 1e9 either way: finite, and the size of numerator / denominator is 1e9 at the most
-unfoldable pub isUpToBillion : Float → Bool
-isUpToBillion x = both (finite x) (leb (natAbs (numerator x)) (1000000000 * denominator x))
-
+-- amounts up to 1e9 either way
 unfoldable pub isRoundable : Float → ℤ → Bool
-isRoundable x digits = both (isWidth digits) (isUpToBillion x)
+isRoundable x digits = both (isWidth digits) (upTo 1000000000 x)
 
 -- ten to the power of the digits
 unfoldable pub powerOfTen : ℤ → Float

@@ -4,19 +4,9 @@ ghost use mathlib.Core.Bool.{true, not};
 ghost use Prim.Native.Nat.{_≤_, _<_, _^_};
 ghost use lib.Dec.{T};
 ghost use lib.Ieee.{isNan};
-ghost use Rattle.amount_rounding.specs.RoundedAmounts.{isWidth, isUpToBillion, isRoundable, powerOfTen, nearestWhole, roundedAway, RoundPromise};
+ghost use Rattle.amount_rounding.specs.RoundedAmounts.{isWidth, isRoundable, powerOfTen, nearestWhole, roundedAway, RoundPromise};
 ghost use Rattle.amount_rounding.specs.Fields.{sizeOf};
 use cash_amount::AmountAnswer;
-
-// No comparison holds of a NaN.
-fn is_up_to_billion(x: f64) -> bool
-    ensures { λ r. ⌜ r ≡ isUpToBillion x ⌝ }
-{
-    if -1000000000.0 <= x {
-        return x <= 1000000000.0;
-    }
-    false
-}
 
 fn is_roundable(x: f64, digits: i32) -> bool
     ensures { λ r. ⌜ r ≡ isRoundable x digits ⌝ }
@@ -27,7 +17,7 @@ fn is_roundable(x: f64, digits: i32) -> bool
     if 4 < digits {
         return false;
     }
-    is_up_to_billion(x)
+    cash_amount::is_up_to_billion(x)
 }
 
 // Rust's `powi` of ten, which is exact here.

@@ -18,7 +18,7 @@ use Rattle.time_period.specs.Steps.{needsTable}
 use Rattle.day_fraction.specs.Exact.{Exact}
 use Rattle.coupon_date.specs.Coupons.{couponDate}
 use Rattle.coupon_date.specs.declared.CouponDate.{CouponDate}
-use Rattle.cash_amount.specs.Amounts.{isCurrency}
+use Rattle.cash_amount.specs.Amounts.{isCurrency, upTo}
 use Rattle.bond.specs.declared.NoteNumber.{NoteNumber}
 use Rattle.bond.specs.declared.Note.{Note}
 use Rattle.bond.specs.declared.NoteAnswer.{NoteAnswer}
@@ -32,12 +32,6 @@ noteOutcome (note-answer.Refused n) = refused n
 -- number: 1 to 10 digits
 unfoldable pub isNoteNumber : NoteNumber → Bool
 isNoteNumber n = both (both (leb 1 (n .count)) (leb (n .count) 10)) (ltb (n .digits) (10 ^ n .count))
-
--- finite, and at most k either way: a mantissa m times 2^e, which is up e / down e, multiplied out
-abbrev pub upTo : ℕ → Float → Bool
-upTo k nan = false
-upTo k (inf s) = false
-upTo k (fin s m e) = leb (m * up e) (k * down e)
 
 -- the sign bit, which a zero has too
 abbrev pub signBit : Float → Bool

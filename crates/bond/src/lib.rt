@@ -80,10 +80,7 @@ pub fn is_rate(rate: f64) -> bool
 pub fn is_position(position: f64) -> bool
     ensures { λ r. ⌜ r ≡ isPosition position ⌝ }
 {
-    if position <= 1e9 {
-        return -1e9 <= position;
-    }
-    false
+    cash_amount::is_up_to_billion(position)
 }
 
 fn is_business(unit: TimePeriodUnit) -> bool

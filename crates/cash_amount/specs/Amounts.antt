@@ -1,10 +1,10 @@
--- Currencies, and what an amount's answer says.
+-- Currencies, the limits of amounts, and what an amount's answer says.
 -- Assumes nothing.
-use Prim.Native.Nat.{ℕ}
-use mathlib.Core.Bool.{Bool}
+use Prim.Native.Nat.{ℕ, _*_}
+use mathlib.Core.Bool.{Bool, false}
 use mathlib.Core.List.{List, [], _∷_}
 use lib.Dec.{leb, eqb}
-use lib.Ieee.{Float}
+use lib.Ieee.{Float, nan, inf, fin, up, down}
 use Rattle.paper.specs.Outcome.{Outcome, given, refused, both}
 use Rattle.cash_amount.specs.declared.Currency.{Currency}
 use Rattle.cash_amount.specs.declared.AmountAnswer.{AmountAnswer}
@@ -25,6 +25,12 @@ isSameCurrency a b = both (eqb (a .first) (b .first)) (both (eqb (a .second) (b 
 -- its text is its three bytes
 abbrev pub currencyText : Currency → List ℕ
 currencyText c = c .first ∷ c .second ∷ c .third ∷ []
+
+-- finite, and at most k either way: a mantissa m times 2^e, which is up e / down e, multiplied out
+abbrev pub upTo : ℕ → Float → Bool
+upTo k nan = false
+upTo k (inf s) = false
+upTo k (fin s m e) = leb (m * up e) (k * down e)
 
 -- the outcome that an answer is: the amount, or the refusal's number
 abbrev pub amountOutcome : AmountAnswer → Outcome Float

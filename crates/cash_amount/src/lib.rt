@@ -1,6 +1,6 @@
-// Amounts of money: a currency of three letters, and the answer that an amount is.
+// Amounts of money: a currency of three letters, the limits of an amount, and the answer that it is.
 ghost use mathlib.Core.Path.{_≡_};
-ghost use Rattle.cash_amount.specs.Amounts.{isCapital, isCurrency, isSameCurrency};
+ghost use Rattle.cash_amount.specs.Amounts.{isCapital, isCurrency, isSameCurrency, upTo};
 
 // finql keeps three `char`s in an array; fields may stand in an enum, an array may not.
 pub struct Currency {
@@ -47,4 +47,14 @@ pub fn is_same_currency(a: Currency, b: Currency) -> bool
         return false;
     }
     a.third == b.third
+}
+
+// Finite, from -1e9 to 1e9; a negative zero is one of them, and no comparison holds of a NaN.
+pub fn is_up_to_billion(x: f64) -> bool
+    ensures { λ r. ⌜ r ≡ upTo 1000000000 x ⌝ }
+{
+    if x <= 1e9 {
+        return -1e9 <= x;
+    }
+    false
 }

@@ -1,10 +1,12 @@
--- An answer is fixed by its outcome, and no second result satisfies a comparison's promise.
+-- An answer is fixed by its outcome, and no second result satisfies an entry point's promise.
 -- Assumes nothing.
+use Prim.Native.Nat.{ℕ}
 use mathlib.Core.Path.{_≡_, sym, ap}
 use mathlib.Core.Bool.{Bool}
 use lib.Ieee.{Float}
 use Rattle.paper.proofs.Outcomes.{given-injective, refused-injective, given-not-refused, one-value}
-use Rattle.cash_flow.specs.Flows.{flowsOutcome, AggregatablePromise, ComparisonPromise}
+use Rattle.calendar.specs.declared.Date.{Date}
+use Rattle.cash_flow.specs.Flows.{flowsOutcome, dateOn, AggregatablePromise, ComparisonPromise}
 use Rattle.cash_flow.specs.declared.CashFlow.{CashFlow}
 use Rattle.cash_flow.specs.declared.FlowsAnswer.{FlowsAnswer}
 use Rattle.cash_flow.specs.declared.FlowsAnswer.the-variants.{Flows, Refused}
@@ -20,3 +22,6 @@ one-aggregatable a b r s p q = one-value r s p q
 
 pub one-comparison : (a b : CashFlow) (tol : Float) (r s : Bool) → ComparisonPromise a b tol r → ComparisonPromise a b tol s → r ≡ s
 one-comparison a b tol r s p q = one-value r s p q
+
+pub one-date-on : (day : ℕ) (r s : Date) → r ≡ dateOn day → s ≡ dateOn day → r ≡ s
+one-date-on day r s p q = one-value r s p q

@@ -4,8 +4,10 @@ use Prim.Native.Nat.{ℕ}
 use mathlib.Core.Path.{_≡_}
 use mathlib.Core.Bool.{Bool, false}
 use lib.Ieee.{Float, nan, inf, fin, binary64, sub, le}
-use Rattle.paper.specs.Outcome.{Outcome, given, refused, both}
+use Rattle.paper.specs.Outcome.{Outcome, given, refused, value, both}
 use Rattle.calendar.specs.Dates.{isSame}
+use Rattle.calendar.specs.Answers.{dateOf}
+use Rattle.calendar.specs.declared.Date.{Date}
 use Rattle.cash_amount.specs.Amounts.{isSameCurrency}
 use Rattle.cash_flow.specs.declared.CashFlow.{CashFlow}
 use Rattle.cash_flow.specs.declared.FlowsAnswer.{FlowsAnswer}
@@ -15,6 +17,13 @@ use Rattle.cash_flow.specs.declared.FlowsAnswer.the-variants.{Flows, Ref
 abbrev pub flowsOutcome : FlowsAnswer → Outcome ℕ
 flowsOutcome (Flows n) = given n
 flowsOutcome (Refused n) = refused n
+
+-- the date of a serial day in a plain list; a day that does not exist has the zero date of a refusal
+abbrev pub noDate : Date
+noDate = record { year = 0; month = 0; day = 0 }
+
+unfoldable pub dateOn : ℕ → Date
+dateOn d = value noDate (dateOf (record { 0 = d }))
 
 -- dates and currencies are equal
 unfoldable pub aggregatableFlows : CashFlow → CashFlow → Bool

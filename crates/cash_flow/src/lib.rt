@@ -1,7 +1,9 @@
 // Cash flows: an amount of a currency on a date; comparison of two.
 ghost use mathlib.Core.Path.{_≡_};
-ghost use Rattle.cash_flow.specs.Flows.{isWithin, AggregatablePromise, ComparisonPromise};
+ghost use Rattle.cash_flow.specs.Flows.{noDate, dateOn, isWithin, AggregatablePromise, ComparisonPromise};
 use calendar::Date;
+use calendar::DateAnswer;
+use calendar::Day;
 use cash_amount::Currency;
 
 pub struct CashFlow {
@@ -14,6 +16,26 @@ pub struct CashFlow {
 pub enum FlowsAnswer {
     Flows(usize),
     Refused(u32),
+}
+
+fn no_date() -> Date
+    ensures { λ r. ⌜ r ≡ noDate ⌝ }
+{
+    Date {
+        year: 0,
+        month: 0,
+        day: 0,
+    }
+}
+
+// The date of a serial day in a plain list; one that does not exist for a day that does not.
+pub fn date_on(day: u32) -> Date
+    ensures { λ r. ⌜ r ≡ dateOn day ⌝ }
+{
+    match calendar::date_of(Day(day)) {
+        DateAnswer::Date(date) => date,
+        DateAnswer::Refused(_n) => no_date(),
+    }
 }
 
 // The same date and the same currency; it refuses nothing, and neither has to exist.

@@ -43,19 +43,6 @@ word = tyInt w64
 abbrev pub slice : Ty
 slice = sliceTy (tyRef (named 0) imm (pointee (T.the-row .written)))
 
--- what follows the first part of a sequence: by it a walk names a piece of the code, and does not write it out
-abbrev pub rest-of : Body → Body
-rest-of skip = skip
-rest-of (seq a b) = b
-rest-of (assign p r) = skip
-rest-of (block b) = skip
-rest-of (loop b) = skip
-rest-of (cond c a b) = skip
-rest-of (switch c as′) = skip
-rest-of (exit n) = skip
-rest-of return = skip
-rest-of (call f xs p) = skip
-
 module _ {M : Type 1} (𝓤 : URA M) (H : Heap 𝓤) (A : Atoms 𝓤) (mem : Memory → SProp 𝓤) (run : Routine → Fun 𝓤) where
   abbrev pub IsLater : Contract 𝓤
   IsLater = tripleOf 𝓤 H A is-later.signature (is-later.spec 𝓤 H A mem run)

@@ -16,7 +16,9 @@ use Rattle.day_count_conv.specs.Conventions.{simpleFraction, yearFraction}
 use Rattle.day_count_conv.specs.declared.DayCountConv.the-variants as conv
 use Rattle.rates.specs.Rates.{isRate, factorOf, fractionTo, isOneCurrency, flowValue, flowAdded, streamFrom, discountedStream}
 use Rattle.rates.specs.declared.FlatRate.{FlatRate}
-use Rattle.listed_rates.specs.Listed.{currencyAt, dateAt, flowAt, flowsFrom, flowsOf}
+use Rattle.calendar.specs.Answers.{dateOf}
+use Rattle.cash_flow.specs.Flows.{dateOn}
+use Rattle.listed_rates.specs.Listed.{currencyAt, flowAt, flowsFrom, flowsOf}
 
 abbrev on : ℕ → ℕ → ℕ → Date
 on y m d = record { year = y; month = m; day = d }
@@ -43,5 +45,5 @@ pub record Lists : Type 0 where
   pub no-amounts : discountedStream flat (on 2021 1 1) (flowsOf (1 ∷ []) (1 ∷ []) []) ≡ given zero
 
 pub lists : Lists
-unfolding add mul div lt eq le ofInt leap lengthIn monthLength yearLength before isDate isDay isBefore isSame dayNumber isCapital isCurrency isSameCurrency exactFraction bits impossible simpleFraction yearFraction isRate factorOf fractionTo isOneCurrency flowValue flowAdded streamFrom discountedStream dateAt currencyAt flowAt flowsFrom flowsOf
+unfolding add mul div lt eq le ofInt leap lengthIn monthLength yearLength before isDate isDay isBefore isSame dayNumber isCapital isCurrency isSameCurrency exactFraction bits impossible simpleFraction yearFraction isRate factorOf fractionTo isOneCurrency flowValue flowAdded streamFrom discountedStream dateOf dateOn currencyAt flowAt flowsFrom flowsOf
 lists = record { euro = refl; four-bytes = refl; no-day = refl; no-currency = refl; no-amounts = refl }

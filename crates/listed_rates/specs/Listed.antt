@@ -5,17 +5,13 @@ use lib.Dec.{ltb}
 use lib.ListN.{length, getD}
 use lib.Ieee.{Float, nan}
 use Rattle.paper.specs.Outcome.{pick}
-use Rattle.calendar.specs.Dates.{isDay, theDate}
 use Rattle.calendar.specs.declared.Date.{Date}
 use Rattle.cash_amount.specs.declared.AmountAnswer.{AmountAnswer}
 use Rattle.cash_amount.specs.declared.Currency.{Currency}
+use Rattle.cash_flow.specs.Flows.{dateOn}
 use Rattle.cash_flow.specs.declared.CashFlow.{CashFlow}
 use Rattle.rates.specs.Rates.{StreamPromise}
 use Rattle.rates.specs.declared.FlatRate.{FlatRate}
-
--- the date of a serial day; outside the calendar, one that does not exist
-unfoldable pub dateAt : ℕ → Date
-dateAt n = pick (isDay (record { 0 = n })) (theDate n) (record { year = 0; month = 0; day = 0 })
 
 -- the currency whose bytes are first * 65536 + second * 256 + third; from 16777216 on, one that is malformed
 unfoldable pub currencyAt : ℕ → Currency
@@ -27,7 +23,7 @@ currencyAt n =
 -- the flow at place i; a day or a currency that its list does not have is 0, so it is refused 1 or 17
 unfoldable pub flowAt : List ℕ → List ℕ → List Float → ℕ → CashFlow
 flowAt days currencies amounts i =
-    record { date = dateAt (getD days i 0); currency = currencyAt (getD currencies i 0); amount = getD amounts i nan }
+    record { date = dateOn (getD days i 0); currency = currencyAt (getD currencies i 0); amount = getD amounts i nan }
 
 -- the flows from place i on, so many of them
 unfoldable pub flowsFrom : List ℕ → List ℕ → List Float → ℕ → ℕ → List CashFlow

@@ -2,28 +2,12 @@
 ghost use mathlib.Core.Path.{_≡_};
 ghost use Prim.Native.Nat.{_<_};
 ghost use lib.ListN.{length, getD};
-ghost use Rattle.listed_rates.specs.Listed.{dateAt, currencyAt, flowAt, ListedPromise};
+ghost use Rattle.listed_rates.specs.Listed.{currencyAt, flowAt, ListedPromise};
 use calendar::Date;
-use calendar::DateAnswer;
-use calendar::Day;
 use cash_amount::AmountAnswer;
 use cash_amount::Currency;
 use cash_flow::CashFlow;
 use rates::FlatRate;
-
-// The date of a serial day, or one that does not exist.
-fn date_at(n: u32) -> Date
-    ensures { λ r. ⌜ r ≡ dateAt n ⌝ }
-{
-    match calendar::date_of(Day(n)) {
-        DateAnswer::Date(t) => t,
-        DateAnswer::Refused(k) => Date {
-            year: 0,
-            month: 0,
-            day: 0,
-        },
-    }
-}
 
 // The currency whose three bytes a number is, or one that is malformed.
 fn currency_at(n: u32) -> Currency
@@ -54,7 +38,7 @@ fn flow_at(days: &[u32], currencies: &[u32], amounts: &[f64], i: usize) -> CashF
     requires { ⌜ i < length (now amounts) ⌝ }
     ensures { λ r. ⌜ r ≡ flowAt (now (days .entry)) (now (currencies .entry)) (now (amounts .entry)) i ⌝ }
 {
-    let date = date_at(entry(days, i));
+    let date = cash_flow::date_on(entry(days, i));
     let currency = currency_at(entry(currencies, i));
     let amount = amounts[i];
     CashFlow {

@@ -30,7 +30,8 @@ use Rattle.packed.specs.declared.PackedAnswer.the-variants as packed-answer
 use Rattle.packed.proofs.Tables.{length-days}
 use Rattle.packed.proofs.Reading.{bytes-given, few-days}
 use Rattle.note_listing.specs.Listing.{linesOf, one, noteLines, answerText, refusedText, listing}
-use Rattle.note_listing.specs.Lines.{dateOn, flowOn, flowsIn, withDays}
+use Rattle.cash_flow.specs.Flows.{dateOn}
+use Rattle.note_listing.specs.Lines.{flowOn, flowsIn, withDays}
 
 pub one-literal : ofBits binary64 4607182418800017408 ≡ one
 unfolding ofBits ofInt

@@ -5,25 +5,18 @@ use mathlib.Core.Path.{_≡_}
 use mathlib.Core.List.{List, [], _∷_}
 use lib.ListN.{length}
 use lib.Ieee.{Float}
-use Rattle.paper.specs.Outcome.{Outcome, given, refused, andThen, value}
+use Rattle.paper.specs.Outcome.{Outcome, given, refused, andThen}
 use Rattle.text.specs.Writing.{lengthOutcome, Written}
 use Rattle.text.specs.declared.LengthAnswer.{LengthAnswer}
 use Rattle.text.specs.declared.LengthAnswer.the-variants.{Length, Refused}
-use Rattle.calendar.specs.Answers.{dateOf}
-use Rattle.calendar.specs.declared.Date.{Date}
 use Rattle.cash_amount.specs.declared.Currency.{Currency}
+use Rattle.cash_flow.specs.Flows.{dateOn}
 use Rattle.cash_flow.specs.declared.CashFlow.{CashFlow}
 use Rattle.bond.specs.declared.Note.{Note}
 use Rattle.packed.specs.Tables.{Unpacked}
 use Rattle.note_listing.specs.Listing.{answerText}
 
--- a flow from its serial day and its amount; a day that does not exist has the zero date of a refusal
-abbrev pub noDate : Date
-noDate = record { year = 0; month = 0; day = 0 }
-
-unfoldable pub dateOn : ℕ → Date
-dateOn d = value noDate (dateOf (record { 0 = d }))
-
+-- a flow from its serial day and its amount
 abbrev pub flowOn : Currency → ℕ → Float → CashFlow
 flowOn c d x = record { date = dateOn d; currency = c; amount = x }
 

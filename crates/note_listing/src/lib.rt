@@ -4,11 +4,8 @@ ghost use Prim.Native.Nat.{_+_, _≤_};
 ghost use lib.ListN.{length};
 ghost use Rattle.text.specs.Writing.{put, Wrote};
 ghost use Rattle.note_listing.specs.Listing.{numberText, refusedText, lineShown, linesOf, noteLines, listing, ListPromise};
-ghost use Rattle.note_listing.specs.Lines.{noDate, dateOn, flowOn, flowsIn, withDays, Taken, AtMost, textOf, LineFits, Listed, LinesWritten};
+ghost use Rattle.note_listing.specs.Lines.{flowOn, flowsIn, withDays, Taken, AtMost, textOf, LineFits, Listed, LinesWritten};
 use bond::Note;
-use calendar::Date;
-use calendar::DateAnswer;
-use calendar::Day;
 use cash_amount::Currency;
 use cash_flow::CashFlow;
 use cash_flow::FlowsAnswer;
@@ -44,31 +41,11 @@ fn write_refusal(n: u32, out: &mut [u8]) -> LengthAnswer
     LengthAnswer::Length(put_refusal(n, out))
 }
 
-fn no_date() -> Date
-    ensures { λ r. ⌜ r ≡ noDate ⌝ }
-{
-    Date {
-        year: 0,
-        month: 0,
-        day: 0,
-    }
-}
-
-// The date of a serial day.
-fn date_on(day: u32) -> Date
-    ensures { λ r. ⌜ r ≡ dateOn day ⌝ }
-{
-    match calendar::date_of(Day(day)) {
-        DateAnswer::Date(date) => date,
-        DateAnswer::Refused(_n) => no_date(),
-    }
-}
-
 fn flow_on(currency: Currency, day: u32, amount: f64) -> CashFlow
     ensures { λ r. ⌜ r ≡ flowOn currency day amount ⌝ }
 {
     CashFlow {
-        date: date_on(day),
+        date: cash_flow::date_on(day),
         currency,
         amount,
     }

@@ -5,7 +5,6 @@ use mathlib.Core.Bool.{Bool, true, false}
 use mathlib.Core.List.{List, [], _∷_}
 use native.Mathlib.Numerals.{add-one}
 use native.Mathlib.Omega.{arith}
-use mir.Syntax.{Body, skip, seq, assign, block, loop, cond, switch, exit, return, call}
 use lib.ListN.{length, getD, drop, drop-of-length-le}
 use lib.Seq.{drop-cons}
 use lib.IntN.{pos}
@@ -24,19 +23,6 @@ use Rattle.rates.specs.Rates.{isRate, streamFrom, discountedStream}
 use Rattle.rates.specs.Steps.{streamStart, flowOnto}
 use Rattle.rates.specs.declared.FlatRate.{FlatRate}
 use Rattle.rates.proofs.Streams.{stream-more, stream-none}
-
--- what follows the first part of a sequence: by it a walk names a piece of the code
-abbrev pub rest-of : Body → Body
-rest-of skip = skip
-rest-of (seq a b) = b
-rest-of (assign p r) = skip
-rest-of (block b) = skip
-rest-of (loop b) = skip
-rest-of (cond c a b) = skip
-rest-of (switch c as′) = skip
-rest-of (exit n) = skip
-rest-of return = skip
-rest-of (call f xs p) = skip
 
 -- the flow past a slice's end, which is never read
 abbrev pub noFlow : CashFlow

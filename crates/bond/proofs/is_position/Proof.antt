@@ -1,14 +1,16 @@
--- `bond::is_position` meets its contract: beside 1e9, and then beside -1e9.
+-- `bond::is_position` meets its contract: an amount's own limits.
 -- Assumes nothing.
-use Rattle.bond.proofs.Limits.{position-in, position-out}
+use borrow.Author.Needs.{needs}
+use Rattle.bond.specs.Notes.{isPosition}
 use Rattle.bond.proofs.is_position.Statement.{statement}
 use Rattle.bond.proofs.is_position.Tie as tie
 
-returns : tie.Need-returns
-returns c = position-in _ (c .if1 .taken)
+is-up-to-billion-requires : tie.Need-is-up-to-billion-requires
+is-up-to-billion-requires c κs = search needs
 
-returns-2 : tie.Need-returns-2
-returns-2 c = position-out _ (c .if1 .left)
+returns : tie.Need-returns
+unfolding isPosition
+returns c = c .is-up-to-billion .ensures
 
 pub is-position-spec : {M : Type 1} → statement M
-is-position-spec = tie.close (tie.spec returns returns-2)
+is-position-spec = tie.close (tie.spec is-up-to-billion-requires returns)

@@ -53,7 +53,8 @@ use Rattle.cash_flow.specs.declared.FlowsAnswer.{FlowsAnswer}
 use Rattle.cash_flow.specs.declared.FlowsAnswer.the-variants.{Flows, Refused}
 use Rattle.fixed_income.specs.After.{hasDate, isLater}
 use Rattle.fixed_income.proofs.Records.{noFlow, Counting, counting-none, counting-yes, counting-no, Answers, no-date, no-flow-date, no-room, so-many}
-use Rattle.fixed_income.proofs.Walked.{vals, dates, word, slice, rest-of, IsLater, to-is-later, asked-is-later, said-is-later}
+use Rattle.room.proofs.Walks.{rest-of}
+use Rattle.fixed_income.proofs.Walked.{vals, dates, word, slice, IsLater, to-is-later, asked-is-later, said-is-later}
 use Rattle.calendar.proofs.Date as D
 use Rattle.calendar.proofs.Date.Laws as D′
 use Rattle.cash_flow.proofs.CashFlow as T

@@ -57,7 +57,8 @@ use Rattle.cash_flow.specs.declared.FlowsAnswer.{FlowsAnswer}
 use Rattle.fixed_income.specs.After.{isLater}
 use Rattle.fixed_income.specs.Promises.{isRefused, AfterPromise}
 use Rattle.fixed_income.proofs.Records.{noFlow, Answers, Copying, copying-none, copying-yes, copying-no, k-room, k-inside, copy-refused, copy-ends}
-use Rattle.fixed_income.proofs.Walked.{vals, dates, word, slice, rest-of, IsLater, to-is-later, asked-is-later, said-is-later}
+use Rattle.room.proofs.Walks.{rest-of}
+use Rattle.fixed_income.proofs.Walked.{vals, dates, word, slice, IsLater, to-is-later, asked-is-later, said-is-later}
 use Rattle.calendar.proofs.Date as D
 use Rattle.calendar.proofs.Date.Laws as D′
 use Rattle.cash_flow.proofs.CashFlow as T

@@ -5,15 +5,16 @@ use lib.Ieee.{nan}
 use denote.Ref.{now}
 use borrow.Author.Needs.{needs}
 use mathlib.Core.Path.{_∙_, ap}
-use Rattle.listed_rates.specs.Listed.{dateAt, currencyAt, flowAt}
+use Rattle.cash_flow.specs.Flows.{dateOn}
+use Rattle.listed_rates.specs.Listed.{currencyAt, flowAt}
 use Rattle.listed_rates.proofs.flow_at.Statement.{statement}
 use Rattle.listed_rates.proofs.flow_at.Tie as tie
 
 entry-requires : tie.Need-entry-requires
 entry-requires c κs = search needs
 
-date-at-requires : tie.Need-date-at-requires
-date-at-requires c κs = search needs
+date-on-requires : tie.Need-date-on-requires
+date-on-requires c κs = search needs
 
 entry-requires-2 : tie.Need-entry-requires-2
 entry-requires-2 c κs = search needs
@@ -33,7 +34,7 @@ returns c =
     let b = c .before .before .before in
     let a = b .before .before .before .before .before .args in
     λ i. record {
-      date = (b .date-at .ensures ∙ ap dateAt (b .before .entry .ensures)) i;
+      date = (b .date-on .ensures ∙ ap dateOn (b .before .entry .ensures)) i;
       currency = (c .before .currency-at .ensures ∙ ap currencyAt (c .before .before .entry2 .ensures)) i;
       amount = getD (now (a .amounts)) (a .i) nan;
     }
@@ -43,7 +44,7 @@ flow-at-spec =
     tie.close
     (tie.spec
     entry-requires
-    date-at-requires
+    date-on-requires
     entry-requires-2
     currency-at-requires
     mul-amount

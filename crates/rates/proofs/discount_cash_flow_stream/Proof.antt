@@ -58,7 +58,8 @@ use Rattle.rates.specs.Steps.{streamStart, flowOnto}
 use Rattle.rates.specs.declared.FlatRate.{FlatRate}
 use Rattle.rates.proofs.FlatRate as R
 use Rattle.rates.proofs.FlatRate.Laws as R′
-use Rattle.rates.proofs.Walked.{rest-of, noFlow, Held, Summed, sum-start, sum-more, sum-ends}
+use Rattle.room.proofs.Walks.{rest-of}
+use Rattle.rates.proofs.Walked.{noFlow, Held, Summed, sum-start, sum-more, sum-ends}
 use Rattle.rates.proofs.stream_start as stream-start
 use Rattle.rates.proofs.stream_start.Symbol as stream-start-def
 use Rattle.rates.proofs.stream_start.Symbol.{name as #rates·stream-start}

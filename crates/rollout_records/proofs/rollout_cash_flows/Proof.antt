@@ -64,6 +64,7 @@ use Rattle.rollout.specs.declared.Due.the-variants.{First}
 use Rattle.rollout_records.specs.Records.{recordsFitted, RecordsPromise}
 use Rattle.rollout_records.specs.Steps.{writtenOf, KeptAll, Came}
 use Rattle.rollout_records.specs.declared.Paid.{Paid}
+use Rattle.room.proofs.Walks.{rest-of}
 use Rattle.rollout_records.proofs.Rolled.{toWrite, Rolling, enough-room, rolling-none, coming, k-inside, rolling-more, so-many, rolled}
 use Rattle.bond.proofs.Note as N
 use Rattle.bond.proofs.Note.Laws as N′
@@ -164,19 +165,6 @@ days-tells = array-tells u32 (uint-vals w32) (uint-tells w32) 256
 
 amounts-tells : Tells Amounts (Is Amounts) amounts-vals
 amounts-tells = array-tells f64 (float-vals binary64) (float-tells binary64) 256
-
--- what follows the first part of a sequence: by it a walk names a piece of the code, and does not write it out
-abbrev rest-of : Body → Body
-rest-of skip = skip
-rest-of (seq a b) = b
-rest-of (assign p r) = skip
-rest-of (block b) = skip
-rest-of (loop b) = skip
-rest-of (cond c a b) = skip
-rest-of (switch c as′) = skip
-rest-of (exit n) = skip
-rest-of return = skip
-rest-of (call f xs p) = skip
 
 -- the turn after its test
 abbrev body : Body

@@ -1,12 +1,12 @@
--- `note_listing::date_on` meets its contract: the date, or the zero of a refusal.
+-- `cash_flow::date_on` meets its contract: the date, or the zero of a refusal.
 -- Assumes nothing.
 use mathlib.Core.Path.{sym, ap, _∙_}
 use Rattle.paper.specs.Outcome.{value}
 use Rattle.calendar.specs.Answers.{dateOutcome}
-use Rattle.note_listing.specs.Lines.{noDate, dateOn}
+use Rattle.cash_flow.specs.Flows.{noDate, dateOn}
 use borrow.Author.Needs.{needs}
-use Rattle.note_listing.proofs.date_on.Statement.{statement}
-use Rattle.note_listing.proofs.date_on.Tie as tie
+use Rattle.cash_flow.proofs.date_on.Statement.{statement}
+use Rattle.cash_flow.proofs.date_on.Tie as tie
 
 date-of-requires : tie.Need-date-of-requires
 date-of-requires c κs = search needs

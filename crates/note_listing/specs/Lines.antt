@@ -5,7 +5,7 @@ use mathlib.Core.Path.{_≡_}
 use mathlib.Core.List.{List, [], _∷_}
 use lib.ListN.{length}
 use lib.Ieee.{Float}
-use Rattle.paper.specs.Outcome.{Outcome, given, refused, andThen}
+use Rattle.paper.specs.Outcome.{Outcome, given, refused, andThen, value}
 use Rattle.text.specs.Writing.{lengthOutcome, Written}
 use Rattle.text.specs.declared.LengthAnswer.{LengthAnswer}
 use Rattle.text.specs.declared.LengthAnswer.the-variants.{Length, Refused}

@@ -138,7 +138,7 @@ class Maker:
             return self.r.randint(1, 9999)
         if k < 0.85:
             return self.pick(1, 2, 3, 4, 9996, 9997, 9998, 9999)
-        return self.pick(1600, 1899, 1900, 1904, 1999, 2000, 2001, 2019, 2020, 2023, 2024, 2100, 2400)
+        return self.pick(200, 1600, 1800, 1899, 1900, 1904, 1999, 2000, 2001, 2019, 2020, 2023, 2024, 2100, 2200, 2400)
 
     def date(self, odd=0.03):
         year, month = self.year(), self.r.randint(1, 12)
@@ -153,6 +153,8 @@ class Maker:
             return year, month, self.pick(1, 28, last, last, last - 1, 15, min(30, last))
         if k < 0.42:
             return year, 2, paper.month_length(year, 2)
+        if k < 0.48:
+            return self.pick((year, 1, 1), (year, 12, 31), (year, 3, 1))
         return year, month, self.r.randint(1, last)
 
     def near(self, t):
@@ -352,13 +354,15 @@ def q_weekday(m, n=None):
 
 
 def q_days_between(m):
-    a, b = m.serial(), m.serial()
+    a = m.serial()
+    b = m.pick(a, a + 1, a - 1, m.serial(), m.serial()) & 0xFFFFFFFF
     asked = paper.is_day(a) and paper.is_day(b) and a <= b
     return Question("days_between", 11, W(a) + W(b), "days #%d #%d" % (a, b) if asked else None, lambda: str(paper.days_between(a, b)))
 
 
 def q_day_after(m):
-    a, b = m.serial(), m.pick(0, 1, m.r.randint(0, 5000), LAST, 2**32 - 1)
+    a = m.serial()
+    b = m.pick(0, 1, m.r.randint(0, 5000), LAST, 2**32 - 1, (LAST - a) & 0xFFFFFFFF, (LAST + 1 - a) & 0xFFFFFFFF)
     return Question("day_after", 12, W(a) + W(b), None, lambda: str(paper.day_after(a, b)))
 
 

@@ -22,7 +22,7 @@ LETTERS = b"+-017DBMm "
 
 
 def day(k):
-    return questions.q_date_of(None, k // 2 + 1) if k % 2 == 0 else questions.q_weekday(None, k // 2 + 1)
+    return questions.q_date_of(None, k + 1) if k < paper.LAST else questions.q_weekday(None, k + 1 - paper.LAST)
 
 
 def thirty_pair(k):

@@ -16,6 +16,9 @@ slice-aggregate-read-full c = search needs
 read-full-requires : tie.Need-read-full-requires
 read-full-requires c κs = search needs
 
+listing-room-requires : tie.Need-listing-room-requires
+listing-room-requires c κs = search needs
+
 array-share-prefix-input : tie.Need-array-share-prefix-input
 array-share-prefix-input c = search needs
 
@@ -62,6 +65,7 @@ main-spec =
     large-buffer-requires
     slice-aggregate-read-full
     read-full-requires
+    listing-room-requires
     array-share-prefix-input
     slice-aggregate-list-note
     slice-aggregate-list-note-2

@@ -1,6 +1,6 @@
 -- The months' lengths at each number, and the days of a year before each month.
 -- Assumes nothing.
-use Prim.Native.Nat.{ℕ, zero, suc, _+_, _-_, _*_, _≤_, _<_}
+use Prim.Native.Nat.{ℕ, zero, suc, _+_, _-_, _*_, _/_, _≤_, _<_}
 use mathlib.Core.Path.{_≡_, refl, sym, _∙_, ap}
 use mathlib.Core.Logic.{_⊎_, inl, inr}
 use mathlib.Core.Bool.{Bool, true, false}
@@ -156,6 +156,21 @@ early = in-both (λ b m. eqb (before (lengthIn false) m) (before (lengthIn b) m)
 late : (k : ℕ) → k < 11 → eqb (before (lengthIn false) (k + 3) + 1) (before (lengthIn true) (k + 3)) ≡ true
 unfolding before lengthIn passes
 late = passes-at (λ k. eqb (before (lengthIn false) (k + 3) + 1) (before (lengthIn true) (k + 3))) 11 refl
+
+-- 367 days in twelve months, spread evenly, of which February lacks two
+unfoldable pub evenly : ℕ → ℕ
+evenly m = (367 * m - 362) / 12
+
+pub common-early : (m : ℕ) → m < 3 → evenly m ≡ before (lengthIn false) m
+unfolding before lengthIn passes evenly
+common-early m h = eqb-true (evenly m) (before (lengthIn false) m) (passes-at (λ (k : ℕ). eqb (evenly k) (before (lengthIn false) k)) 3 refl m h)
+
+pub common-late : (m : ℕ) → 3 ≤ m → m ≤ 13 → evenly m - 2 ≡ before (lengthIn false) m
+unfolding before lengthIn passes evenly
+common-late m l h =
+    let e : m - 3 + 3 ≡ m = omega arith in
+    rw e at (eqb-true (evenly (m - 3 + 3) - 2) (before (lengthIn false) (m - 3 + 3))
+    (passes-at (λ (k : ℕ). eqb (evenly (k + 3) - 2) (before (lengthIn false) (k + 3))) 11 refl (m - 3) (omega arith)))
 
 pub before-early : (y m : ℕ) → m < 3 → before (lengthIn false) m ≡ beforeMonth y m
 unfolding monthLength

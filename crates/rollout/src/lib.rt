@@ -4,14 +4,12 @@ ghost use mathlib.Core.Bool.{true};
 ghost use Prim.Native.Nat.{_≤_};
 ghost use mathlib.Core.List.{_++_};
 ghost use lib.ListN.{length, take, drop, set};
-ghost use Rattle.paper.specs.Outcome.{given};
-ghost use Rattle.room.specs.Room.{counted, roomAfter};
-ghost use Rattle.calendar.specs.Dates.{isDate, isBefore};
+ghost use Rattle.room.specs.Room.{counted};
+ghost use Rattle.calendar.specs.Dates.{isDate};
 ghost use Rattle.holidays.specs.Table.{ascending};
-ghost use Rattle.day_fraction.specs.Fractions.{Span};
 ghost use Rattle.cash_flow.specs.Flows.{flowsOutcome};
-ghost use Rattle.rollout.specs.Rollout.{paid, couponFlow, noteFlows, dayOf, amountOf, RolloutPromise};
-ghost use Rattle.rollout.specs.Turns.{Judged, stepOf, Dated, Turned, Kept};
+ghost use Rattle.rollout.specs.Rollout.{paid, noteFlows, RolloutPromise};
+ghost use Rattle.rollout.specs.Turns.{Judged, stepOf, Dated, Turned, Kept, comingFirst, comingAfter, comingOf, Spanned, owedOf};
 use bond::Note;
 use bond::NoteAnswer;
 use calendar::Date;
@@ -56,13 +54,13 @@ pub enum Owed {
 }
 
 // A step, and the place of its date among the holidays.
-pub struct Turn {
+pub struct Taken {
     pub step: Step,
     pub near: usize,
 }
 
 // An amount on the adjusted date.
-fn pay(note: Note, table: &[u32], near: usize, t: Date, amount: f64, next: Due) -> Turn
+fn pay(note: Note, table: &[u32], near: usize, t: Date, amount: f64, next: Due) -> Taken
     requires { ⌜ (isDate t ≡ true) × (ascending (now table) ≡ true) ⌝ }
     ensures { λ r. ⌜ r .step ≡ stepOf (paid note (now (table .entry)) t amount) next ⌝ }
 {
@@ -78,11 +76,11 @@ fn pay(note: Note, table: &[u32], near: usize, t: Date, amount: f64, next: Due) 
                 amount,
             };
             let step = Step::Pay(calendar::number_of(u), flow, next);
-            Turn { step, near: i }
+            Taken { step, near: i }
         }
         DateAnswer::Refused(k) => {
             let step = Step::Stop(k);
-            Turn { step, near: i }
+            Taken { step, near: i }
         }
     }
 }
@@ -91,8 +89,9 @@ fn pay(note: Note, table: &[u32], near: usize, t: Date, amount: f64, next: Due) 
 fn coming_first(note: Note) -> Coming
     ensures { λ r. ⌜ r ≡ comingFirst note ⌝ }
 {
+    let issue = note.issue_date;
     match bond::first_coupon_end(note) {
-        DateAnswer::Date(end) => Coming::Coupon(note.issue_date, end, end),
+        DateAnswer::Date(end) => Coming::Coupon(issue, end, end),
         DateAnswer::Refused(k) => Coming::Stop(k),
     }
 }
@@ -112,7 +111,7 @@ fn coming_after(note: Note, end: Date) -> Coming
     }
 }
 
-fn coming(note: Note, due: Due) -> Coming
+fn what_comes(note: Note, due: Due) -> Coming
     requires { ⌜ Dated due ⌝ }
     ensures { λ r. ⌜ r ≡ comingOf note due ⌝ }
 {
@@ -124,7 +123,7 @@ fn coming(note: Note, due: Due) -> Coming
 }
 
 // What comes, as an amount. Each of these has one caller, so that the compiler keeps them out of memory.
-fn owed(note: Note, position: f64, c: Coming) -> Owed
+fn what_is_owed(note: Note, position: f64, c: Coming) -> Owed
     requires { ⌜ Spanned c ⌝ }
     ensures { λ r. ⌜ r ≡ owedOf note position c ⌝ }
 {
@@ -139,14 +138,17 @@ fn owed(note: Note, position: f64, c: Coming) -> Owed
             match day_count_conv::fraction_judged(rule, start, end, extras) {
                 YearFraction::Fraction(fraction) => {
                     let amount = bond::coupon_amount(position, note, fraction);
-                    Owed::Pay(end, amount, Due::After(end))
+                    let next = Due::After(end);
+                    Owed::Pay(end, amount, next)
                 }
                 YearFraction::Refused(k) => Owed::Stop(k),
             }
         }
         Coming::Nominal => {
             let amount = bond::nominal(position, note);
-            Owed::Pay(note.maturity, amount, Due::Nothing)
+            let maturity = note.maturity;
+            let next = Due::Nothing;
+            Owed::Pay(maturity, amount, next)
         }
         Coming::Stop(k) => Owed::Stop(k),
         Coming::End => Owed::End,
@@ -154,19 +156,19 @@ fn owed(note: Note, position: f64, c: Coming) -> Owed
 }
 
 // One step of a note, a position and a table already judged, from a place of the table that may be near its date's.
-fn turn_near(note: Note, position: f64, table: &[u32], near: usize, due: Due) -> Turn
+fn turn_near(note: Note, position: f64, table: &[u32], near: usize, due: Due) -> Taken
     requires { ⌜ (Judged note position (now table)) × (Dated due) ⌝ }
     ensures { λ r. ⌜ Turned note position (now (table .entry)) due (r .step) ⌝ }
 {
-    match owed(note, position, coming(note, due)) {
+    match what_is_owed(note, position, what_comes(note, due)) {
         Owed::Pay(t, amount, next) => pay(note, table, near, t, amount, next),
         Owed::Stop(k) => {
             let step = Step::Stop(k);
-            Turn { step, near }
+            Taken { step, near }
         }
         Owed::End => {
             let step = Step::End;
-            Turn { step, near }
+            Taken { step, near }
         }
     }
 }

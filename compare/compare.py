@@ -10,6 +10,7 @@ import multiprocessing
 import os
 import sys
 
+import asked
 import differences
 import paper
 import questions
@@ -70,11 +71,11 @@ SETS = (
 def block(task):
     kind, first, last, stride, seed = task
     if kind is None:
-        asked = list(questions.random_questions(last - first, seed))
+        made = list(asked.random_questions(last - first, seed))
     else:
         ask = SETS[kind][1]
-        asked = [ask(k) for k in range(first, last, stride)]
-    return sides.compare(ANSWERS, ORACLE, asked)
+        made = [ask(k) for k in range(first, last, stride)]
+    return sides.compare(ANSWERS, ORACLE, made)
 
 
 def tasks(count, seed):

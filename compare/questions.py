@@ -817,10 +817,3 @@ RANDOM = [
     (3, rolled("rollout_flows", 50, lambda f: "%d:%s" % (paper.serial(f[0]), bits(f[2])))), (5, q_accrued_interest), (1, q_read_note), (1, q_write_note), (1, q_list_note),
     (1, q_read_u32), (2, q_read_i32),
 ]
-
-
-def random_questions(count, seed):
-    m = Maker(seed)
-    makers = [q for weight, q in RANDOM for _ in range(weight)]
-    for _ in range(count):
-        yield m.r.choice(makers)(m)

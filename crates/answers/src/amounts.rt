@@ -18,7 +18,7 @@ use rates::FlatRate;
 
 fn roll_date(f: &[u8], at: usize) -> RollDate {
     let f = fields::rest(f, at);
-    if fields::byte(f, 0) == 1 {
+    if fields::yes(f, 0) {
         return RollDate::Date(fields::date(f, 1));
     }
     RollDate::Absent
@@ -26,7 +26,7 @@ fn roll_date(f: &[u8], at: usize) -> RollDate {
 
 fn roll_period(f: &[u8], at: usize) -> RollPeriod {
     let f = fields::rest(f, at);
-    if fields::byte(f, 0) == 1 {
+    if fields::yes(f, 0) {
         return RollPeriod::Period(fields::period(f, 1));
     }
     RollPeriod::Absent

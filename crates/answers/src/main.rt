@@ -6,6 +6,7 @@ mod fields;
 mod lent;
 mod line;
 mod notes;
+mod parts;
 mod texts;
 
 use libc::STDIN_FILENO;
@@ -17,16 +18,17 @@ fn told(verb: u8, f: &[u8]) -> Told {
     match verb {
         1..=15 => days::told(verb, f),
         16..=22 | 29 | 30 => business::told(verb, f),
-        23 | 25..=28 | 31 | 32 | 34 | 43 | 55 | 56 => texts::told(verb, f),
+        23 | 25..=28 | 31 | 32 | 34 | 43 | 55 | 56 | 60 | 70 | 83 => texts::told(verb, f),
         35..=38 | 44..=46 => amounts::told(verb, f),
-        48 | 49 | 51 => notes::told(verb, f),
+        48 | 49 | 51 | 79 => notes::told(verb, f),
+        61..=64 | 69 | 71..=78 | 80..=82 => parts::told(verb, f),
         _ => Told::Refused(0),
     }
 }
 
 fn words(verb: u8, f: &[u8], out: &mut [u8], at: usize) -> usize {
     match verb {
-        24 | 33 | 39..=42 => texts::put_written(verb, f, out, at),
+        24 | 33 | 39..=42 | 65..=68 => texts::put_written(verb, f, out, at),
         47 => amounts::put_flows_after(f, out, at),
         50 => notes::put_rollout(f, out, at),
         52 => notes::put_read_note(f, out, at),

@@ -1,4 +1,4 @@
-// Verbs 48 to 54: notes, their flows and their packed form.
+// Verbs 48 to 54 and 79: notes, their flows and their packed form.
 use crate::fields;
 use crate::lent;
 use crate::line;
@@ -23,6 +23,7 @@ pub(crate) fn told(verb: u8, f: &[u8]) -> Told {
     match verb {
         48 => checked(bond::check_note(note)),
         49 => line::date(bond::first_coupon_end(note)),
+        79 => checked(bond::check_note_with(note, fields::yes(f, 66), fields::yes(f, 67))),
         _ => line::fraction(accrued_interest::accrued_interest(note, fields::date(f, 66))),
     }
 }

@@ -34,8 +34,6 @@ def flow_list(name, text):
         day, currency = paper.serial(t), c.encode()
         if name == "rollout_flows":
             out.append("%d:%s" % (day, x))
-        elif name == "rollout_cash_flows":
-            out.append("%d-%d-%d:%s" % (*t, x))
         elif name == "flows_after_listed":
             out.append("%d:%d:%s" % (day, int.from_bytes(currency, "big"), x))
         else:
@@ -118,7 +116,7 @@ def explain(q, rust):
     """The rule by which the Rust's answer may differ from document 01's, or None."""
     name, expected = q.name, q.expected.replace(" kept", "")
     given = expected.startswith("ok")
-    if name.startswith("discount_listed") and rust == "refused 17" and not_held(q.line):
+    if name in ("discount_listed_flows", "discount_cash_flow_stream") and rust == "refused 17" and not_held(q.line):
         return "currency: the Rust cannot hold it"
     number = 0 if given else int(expected.split(" ")[1])
     if given:

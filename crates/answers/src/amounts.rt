@@ -258,7 +258,7 @@ fn after(
     let d = lent::words(fields::places(f, 12), out_days);
     let c = lent::words(fields::places(f, 12), out_currencies);
     let a = lent::floats(fields::places(f, 12), out_amounts);
-    fixed_income::flows_after_listed(
+    listed_flows::flows_after_listed(
         Day(day_number(fields::date(f, 0))),
         days,
         currencies,

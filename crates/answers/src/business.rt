@@ -29,8 +29,8 @@ fn of_periods(verb: u8, f: &[u8], table: &[u32]) -> Told {
     let p = fields::period(f, 0);
     let t = fields::date(f, 5);
     match verb {
-        29 => line::date(time_period::add_to_with(p, t, table)),
-        _ => line::date(time_period::sub_from_with(p, t, table)),
+        29 => line::date(period_steps::add_to_with(p, t, table)),
+        _ => line::date(period_steps::sub_from_with(p, t, table)),
     }
 }
 

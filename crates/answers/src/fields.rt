@@ -1,7 +1,6 @@
 // The fields of a record: what its bytes do not have is read as zeros.
 ghost use Prim.Native.Nat.{_≤_};
 use bond::Note;
-use bond::NoteNumber;
 use calendar::Date;
 use calendar::Day;
 use cash_amount::Currency;
@@ -9,6 +8,7 @@ use cash_flow::CashFlow;
 use coupon_date::CouponDate;
 use day_adjust::DayAdjust;
 use day_count_conv::DayCountConv;
+use note_limits::NoteNumber;
 use time_period::TimePeriod;
 use time_period::TimePeriodUnit;
 

@@ -7,8 +7,8 @@ fn holds(verb: u8, f: &[u8]) -> bool {
         72 => cash_amount::is_currency(fields::currency(f, 0)),
         73 => cash_amount::is_same_currency(fields::currency(f, 0), fields::currency(f, 3)),
         74 => cash_amount::is_up_to_billion(fields::float(f, 0)),
-        76 => bond::is_note_number(fields::note_number(f)),
-        77 => bond::is_rate(fields::float(f, 0)),
+        76 => note_limits::is_note_number(fields::note_number(f)),
+        77 => note_limits::is_rate(fields::float(f, 0)),
         _ => bond::is_position(fields::float(f, 0)),
     }
 }

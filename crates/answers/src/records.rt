@@ -25,7 +25,7 @@ pub(crate) struct Records {
 fn stream(rate: FlatRate, flows: [CashFlow; PLACES], n: usize, today: Date) -> AmountAnswer
     requires { ⌜ n ≤ 300 ⌝ }
 {
-    rates::discount_cash_flow_stream(rate, &flows[..n], today)
+    rate_streams::discount_cash_flow_stream(rate, &flows[..n], today)
 }
 
 fn after(

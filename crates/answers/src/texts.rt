@@ -50,15 +50,15 @@ fn of_periods(verb: u8, f: &[u8]) -> Told {
     match verb {
         25 => frequency(time_period::frequency(p)),
         26 => line::period(time_period::inverse(p)),
-        27 => line::date(time_period::add_to(p, t)),
-        _ => line::date(time_period::sub_from(p, t)),
+        27 => line::date(period_steps::add_to(p, t)),
+        _ => line::date(period_steps::sub_from(p, t)),
     }
 }
 
 pub(crate) fn told(verb: u8, f: &[u8]) -> Told {
     match verb {
         23 => line::period(period_text::read_period(f)),
-        31 => line::coupon(coupon_date::read_coupon_date(f)),
+        31 => line::coupon(coupon_text::read_coupon_date(f)),
         32 => line::coupon(coupon_date::new_coupon_date(fields::word(f, 0), fields::word(f, 4))),
         34 => code(day_count_conv::convention_of(fields::word(f, 0))),
         43 => length(cash_flow_text::cash_flow_length(fields::flow(f, 0))),
@@ -84,8 +84,8 @@ fn scaled(f: &[u8], room: &mut [u8]) -> LengthAnswer {
 fn write(verb: u8, f: &[u8], room: &mut [u8]) -> LengthAnswer {
     match verb {
         24 => period_text::write_period(fields::period(f, 0), room),
-        33 => coupon_date::write_coupon_date(fields::coupon(f, 0), room),
-        39 => cash_flow_text::write_date(fields::date(f, 0), room),
+        33 => coupon_text::write_coupon_date(fields::coupon(f, 0), room),
+        39 => date_text::write_date(fields::date(f, 0), room),
         40 => cash_flow_text::write_amount(fields::float(f, 0), fields::currency(f, 8), room),
         41 => cash_flow_text::write_cash_flow(fields::flow(f, 0), room),
         65 => text::write_u32(fields::word(f, 0), room),

@@ -10,7 +10,7 @@ use lib.Arith.{digits-div, digits-mod}
 use lib.Pow.{mod-pow-add, pow-add, pow-lt, pow-mono}
 use lib.ListN.{length, take, drop, getD, length-append, length-drop, take-append-drop}
 use lib.Seq.{take-suc, take-add, take-at, drop-at, drop-nil, drop-drop, drop-append-add, getD-drop, length-take-le}
-use Rattle.bit_fields.specs.Bits.{fieldBits, continuedBits, bitsNumber, bitsOf, field, bytesNumber, bytesOf, AreBytes}
+use Rattle.bit_fields.specs.Bits.{Field, fieldBits, fieldsBits, continuedBits, bitsNumber, bitsOf, field, bytesNumber, bytesOf, AreBytes}
 
 -- every one is a bit
 abbrev pub AreBits : List ℕ → Type 0
@@ -37,6 +37,10 @@ pub length-field : (w n : ℕ) → length (fieldBits w n) ≡ w
 unfolding fieldBits
 length-field zero n = refl
 length-field (suc w) n = omega (arith, length-append (fieldBits w (n / 2)) (n % 2 ∷ []), length-field w (n / 2))
+
+pub one-field : (f : Field) → fieldsBits (f ∷ []) ≡ fieldBits (f .width) (f .number)
+unfolding fieldsBits
+one-field f = append-nil (fieldBits (f .width) (f .number))
 
 pub field-bits : (w n : ℕ) → AreBits (fieldBits w n)
 unfolding fieldBits

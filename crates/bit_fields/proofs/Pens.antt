@@ -8,12 +8,12 @@ use native.Mathlib.Numerals.{add-one}
 use native.Mathlib.Omega.{arith}
 use lib.Pow.{pow-add, pow-pos, pow-mono, shr-lt}
 use lib.Arith.{digits-lt, digits-div, digits-mod}
-use lib.ListN.{length, take, drop, set, length-set, length-append, take-append-drop}
+use lib.ListN.{length, take, drop, set, length-set, take-append-drop}
 use lib.Seq.{take-suc-set, drop-set-lt, drop-drop, length-take-le}
-use Rattle.bit_fields.specs.Bits.{fieldBits, bitsOf, bytesOf, AreBytes}
+use Rattle.bit_fields.specs.Bits.{inBits, fieldBits, bitsOf, bytesOf, AreBytes}
 use Rattle.bit_fields.specs.Pens.{Held, putSoFar, Drew}
 use Rattle.bit_fields.specs.declared.Pen.{Pen}
-use Rattle.bit_fields.proofs.Bits.{length-field, field-split, field-cut, bits-of-append, one-byte, bytes-append, bytes-back, length-bytes}
+use Rattle.bit_fields.proofs.Bits.{length-field, one-field, field-split, field-cut, bits-of-append, one-byte, bytes-append, bytes-back, length-bytes}
 use Rattle.text.specs.Writing.{put}
 
 -- what has gone out since the place, the count and the bits of the start
@@ -91,17 +91,18 @@ module _ (p : Pen) (w x m : ℕ) (h : Held p) (k : w ≤ 56) (l : x < 2 ^ w) (e 
       rw (e) (field-split (p .count) w N ∙ rw (top, low))
 
   pub drew-all : (out₀ out : List ℕ) (place count bits : ℕ) → Flushed out₀ (p .place) (p .count + w) (p .bits * m + x) out place count bits → count < 8
-      → Drew out₀ out p (record { place = place; count = count; bits = bits }) w x
+      → Drew out₀ out p (record { place = place; count = count; bits = bits }) w (inBits w x ∷ [])
   drew-all out₀ out place count bits f c = record {
     held = (c, f .below);
-    drawn = f .drawn ∙ rw (gathered-bits) (sym (append-assoc (bitsOf (take (p .place) out₀)) (fieldBits (p .count) (p .bits)) (fieldBits w x)));
+    drawn = f .drawn ∙ rw (gathered-bits, one-field (inBits w x)) (sym (append-assoc (bitsOf (take (p .place) out₀)) (fieldBits (p .count) (p .bits)) (fieldBits w x)));
     bytes = f .bytes;
     past = f .past;
     same-length = f .same-length;
     moved = omega (arith, f .moved);
+    counted = rw (one-field (inBits w x)) (length-field w x);
   }
 
--- ---- fields one after the other
+-- ---- all of them
 
 -- since the bytes d, the bits s were put
 pub record Inked (d e : List ℕ) (p : Pen) (s : List ℕ) : Type 0 where
@@ -111,31 +112,6 @@ pub record Inked (d e : List ℕ) (p : Pen) (s : List ℕ) : Type 0 where
   pub past : drop (p .place) e ≡ drop (p .place) d
   pub same-length : length e ≡ length d
   pub placed : 8 * p .place + p .count ≡ length s
-
-pub inked-none : (d : List ℕ) → Inked d d (record { place = 0; count = 0; bits = 0 }) []
-unfolding bitsOf fieldBits
-inked-none d = record { held = (omega arith, omega arith); drawn = refl; bytes = omega arith; past = refl; same-length = refl; placed = refl }
-
-pub inked-more : {d e f : List ℕ} {p r : Pen} {s : List ℕ} (w x : ℕ) → Inked d e p s → Drew e f p r w x → Inked d f r (s ++ fieldBits w x)
-inked-more {d} {e} {f} {p} {r} {s} w x i n = record {
-  held = n .held;
-  drawn = n .drawn ∙ ap (λ (t : List ℕ). t ++ fieldBits w x) (i .drawn);
-  bytes = n .bytes (i .bytes);
-  past = n .past ∙ later;
-  same-length = n .same-length ∙ i .same-length;
-  placed = omega (arith, n .moved, i .placed, length-append s (fieldBits w x), length-field w x);
-}
-  where
-    ahead : p .place + (r .place - p .place) ≡ r .place
-    ahead = omega (arith, n .moved, i .held .0, n .held .0)
-
-    later : drop (r .place) e ≡ drop (r .place) d
-    later =
-        ap (λ (k : ℕ). drop k e) (sym ahead)
-        ∙ sym (drop-drop (r .place - p .place) (p .place) e)
-        ∙ ap (drop (r .place - p .place)) (i .past)
-        ∙ drop-drop (r .place - p .place) (p .place) d
-        ∙ ap (λ (k : ℕ). drop k d) ahead
 
 no-bits : (n : ℕ) → fieldBits 0 n ≡ []
 unfolding fieldBits

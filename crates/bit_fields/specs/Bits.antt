@@ -9,6 +9,19 @@ unfoldable pub fieldBits : ℕ → ℕ → List ℕ
 fieldBits zero n = []
 fieldBits (suc w) n = fieldBits w (n / 2) ++ ((n % 2) ∷ [])
 
+-- a number in so many bits
+pub record Field : Type 0 where
+  pub width : ℕ
+  pub number : ℕ
+
+abbrev pub inBits : ℕ → ℕ → Field
+inBits w n = record { width = w; number = n }
+
+-- the bits of fields one after the other, most significant first
+unfoldable pub fieldsBits : List Field → List ℕ
+fieldsBits [] = []
+fieldsBits (f ∷ fs) = fieldBits (f .width) (f .number) ++ fieldsBits fs
+
 -- bits behind a number: each makes it twice as much, and adds itself
 unfoldable pub continuedBits : ℕ → List ℕ → ℕ
 continuedBits v [] = v

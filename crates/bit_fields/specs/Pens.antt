@@ -1,10 +1,10 @@
--- Fields put one after the other: whole bytes are written, and the bits of the next one are held.
+-- Fields put one after the other: whole bytes are written, and the bits of the next one are held. For inner functions only: no entry point promises it.
 -- Assumes nothing.
 use Prim.Native.Nat.{ℕ, _+_, _*_, _^_, _<_}
 use mathlib.Core.Path.{_≡_}
 use mathlib.Core.List.{List, _++_}
 use lib.ListN.{length, take, drop}
-use Rattle.bit_fields.specs.Bits.{fieldBits, bitsOf, AreBytes}
+use Rattle.bit_fields.specs.Bits.{Field, fieldBits, fieldsBits, bitsOf, AreBytes}
 use Rattle.bit_fields.specs.declared.Pen.{Pen}
 
 -- fewer than eight bits are held
@@ -15,11 +15,12 @@ Held p = (p .count < 8) × (p .bits < 2 ^ p .count)
 abbrev pub putSoFar : List ℕ → Pen → List ℕ
 putSoFar e p = bitsOf (take (p .place) e) ++ fieldBits (p .count) (p .bits)
 
--- what putting x in w bits promises: they stand behind those before, the bytes past them are as they were, and it is w bits further
-pub record Drew (d e : List ℕ) (p r : Pen) (w x : ℕ) : Type 0 where
+-- what putting fields of n bits promises: they stand behind those before, the bytes past them are as they were, and it is n bits further
+pub record Drew (d e : List ℕ) (p r : Pen) (n : ℕ) (fs : List Field) : Type 0 where
   pub held : Held r
-  pub drawn : putSoFar e r ≡ putSoFar d p ++ fieldBits w x
+  pub drawn : putSoFar e r ≡ putSoFar d p ++ fieldsBits fs
   pub bytes : AreBytes (take (p .place) d) → AreBytes (take (r .place) e)
   pub past : drop (r .place) e ≡ drop (r .place) d
   pub same-length : length e ≡ length d
-  pub moved : 8 * r .place + r .count ≡ 8 * p .place + p .count + w
+  pub moved : 8 * r .place + r .count ≡ 8 * p .place + p .count + n
+  pub counted : length (fieldsBits fs) ≡ n

@@ -1,8 +1,9 @@
 // Numbers in fields of bits, the most significant bit first: read from lent bytes, and put into them one after the other.
 ghost use mathlib.Core.Path.{_≡_};
 ghost use Prim.Native.Nat.{_+_, _-_, _*_, _≤_, _<_, _^_};
+ghost use mathlib.Core.List.{[], _∷_};
 ghost use lib.ListN.{length};
-ghost use Rattle.bit_fields.specs.Bits.{bytesNumber, field};
+ghost use Rattle.bit_fields.specs.Bits.{inBits, bytesNumber, field};
 ghost use Rattle.bit_fields.specs.Pens.{Held, Drew};
 
 // Bytes that are written, and the bits of the next one that are at hand.
@@ -52,7 +53,7 @@ pub fn read_field(s: &[u8], at: usize, width: usize) -> u64
 // Inner: a field behind those that are put already; the caller has the room.
 pub fn put_field(pen: Pen, x: u64, width: usize, out: &mut [u8]) -> Pen
     requires { ⌜ (Held pen) × (width ≤ 56) × (x < 2 ^ width) × (8 * pen .place + pen .count + width ≤ 8 * length (now out)) ⌝ }
-    ensures { λ r. ⌜ Drew (now (out .entry)) (now (out .exit)) pen r width x ⌝ }
+    ensures { λ r. ⌜ Drew (now (out .entry)) (now (out .exit)) pen r width (inBits width x ∷ []) ⌝ }
 {
     let mut place = pen.place;
     let mut count = pen.count + width;

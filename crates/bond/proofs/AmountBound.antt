@@ -18,7 +18,8 @@ use Rattle.rounding.proofs.CloseLaws.{near-own, near-close}
 use Rattle.day_fraction.specs.Exact.{Exact}
 use Rattle.day_fraction.specs.Fractions.{whole}
 use Rattle.day_fraction.proofs.Bounds.{NearTo}
-use Rattle.bond.specs.Notes.{isRate, interestOn, exactInterest, couponAmount}
+use Rattle.note_limits.specs.Limits.{isRate}
+use Rattle.bond.specs.Notes.{interestOn, exactInterest, couponAmount}
 use Rattle.bond.specs.declared.Note.{Note}
 
 -- a rate is exactly the fraction that it means, at most 100

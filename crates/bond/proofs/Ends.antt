@@ -22,7 +22,8 @@ use Rattle.day_count_conv.proofs.Numbers.{above-one}
 use Rattle.coupon_date.specs.Coupons.{couponDate}
 use Rattle.coupon_date.specs.declared.CouponDate.{CouponDate}
 use Rattle.cash_amount.specs.Amounts.{isCurrency}
-use Rattle.bond.specs.Notes.{isNoteNumber, isRate, periodChecks, termChecks, noteChecks, inYearOf, firstCouponEnd}
+use Rattle.note_limits.specs.Limits.{isNoteNumber, isRate}
+use Rattle.bond.specs.Notes.{periodChecks, termChecks, noteChecks, inYearOf, firstCouponEnd}
 use Rattle.bond.specs.declared.Note.{Note}
 
 -- the year after the last has no dates

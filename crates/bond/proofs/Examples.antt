@@ -19,8 +19,9 @@ use Rattle.day_count_conv.specs.declared.DayCountConv.the-variants as conv
 use Rattle.day_adjust.specs.declared.DayAdjust.the-variants as rule
 use Rattle.cash_amount.specs.Amounts.{isCapital, isCurrency}
 use Rattle.cash_amount.specs.declared.Currency.{Currency}
-use Rattle.bond.specs.Notes.{isNoteNumber, isRate, isPosition, periodChecks, termChecks, noteChecks, inYearOf, firstCouponEnd}
-use Rattle.bond.specs.declared.NoteNumber.{NoteNumber}
+use Rattle.note_limits.specs.Limits.{isNoteNumber, isRate}
+use Rattle.bond.specs.Notes.{isPosition, periodChecks, termChecks, noteChecks, inYearOf, firstCouponEnd}
+use Rattle.note_limits.specs.declared.NoteNumber.{NoteNumber}
 use Rattle.bond.specs.declared.Note.{Note}
 
 abbrev pub on : ℕ → ℕ → ℕ → Date

@@ -1,4 +1,3 @@
-pub mod Limits
 pub mod Ends
 pub mod AmountBound
 pub mod OneOutcome

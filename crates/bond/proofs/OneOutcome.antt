@@ -16,9 +16,9 @@ use Rattle.time_period.specs.Steps.{needsTable}
 use Rattle.coupon_date.specs.Coupons.{couponDate}
 use Rattle.coupon_date.proofs.OneOutcome.{new-numbered}
 use Rattle.cash_amount.specs.Amounts.{isCurrency}
-use Rattle.bond.specs.Notes.{noteOutcome, isNoteNumber, isRate, isPosition, interestOn, nominalOf, couponAmount, periodChecks, termChecks, noteChecks, inYearOf, firstCouponEnd, ChecksPromise, NotePromise, FirstEndPromise}
+use Rattle.note_limits.specs.Limits.{isNoteNumber, isRate}
+use Rattle.bond.specs.Notes.{noteOutcome, isPosition, interestOn, nominalOf, couponAmount, periodChecks, termChecks, noteChecks, inYearOf, firstCouponEnd, ChecksPromise, NotePromise, FirstEndPromise}
 use Rattle.bond.specs.declared.Note.{Note}
-use Rattle.bond.specs.declared.NoteNumber.{NoteNumber}
 use Rattle.bond.specs.declared.NoteAnswer.{NoteAnswer}
 use Rattle.bond.specs.declared.NoteAnswer.the-variants as note-answer
 
@@ -54,12 +54,6 @@ unfolding firstCouponEnd inYearOf existingDate
 first-end-numbered n = unless-numbered (isDate _) 1 _ (omega arith) (omega arith)
 
 -- and of the promises that are equations
-pub one-is-note-number : (n : NoteNumber) (r s : Bool) → r ≡ isNoteNumber n → s ≡ isNoteNumber n → r ≡ s
-one-is-note-number n r s p q = one-value r s p q
-
-pub one-is-rate : (x : Float) (r s : Bool) → r ≡ isRate x → s ≡ isRate x → r ≡ s
-one-is-rate x r s p q = one-value r s p q
-
 pub one-is-position : (x : Float) (r s : Bool) → r ≡ isPosition x → s ≡ isPosition x → r ≡ s
 one-is-position x r s p q = one-value r s p q
 

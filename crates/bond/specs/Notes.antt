@@ -1,12 +1,12 @@
 -- The note: its checks in their order, its first coupon end, and the amounts it pays.
 -- Assumes nothing.
-use Prim.Native.Nat.{ℕ, _+_, _*_, _^_}
+use Prim.Native.Nat.{ℕ, _+_, _*_}
 use mathlib.Core.Path.{_≡_}
-use mathlib.Core.Bool.{Bool, true, false, not}
-use lib.Dec.{leb, ltb}
+use mathlib.Core.Bool.{Bool, true, not}
+use lib.Dec.{ltb}
 use lib.IntN.{pos, _*ℤ_}
 use lib.Signed.{leZ}
-use lib.Ieee.{Float, nan, inf, fin, up, down, binary64, mul, div, ofInt}
+use lib.Ieee.{Float, binary64, mul, div, ofInt}
 use Rattle.paper.specs.Outcome.{Outcome, given, refused, unless, andThen, pick, both}
 use Rattle.rounding.specs.Close.{numerator, denominator}
 use Rattle.calendar.specs.Dates.{isDate}
@@ -19,29 +19,16 @@ use Rattle.day_fraction.specs.Exact.{Exact}
 use Rattle.coupon_date.specs.Coupons.{couponDate}
 use Rattle.coupon_date.specs.declared.CouponDate.{CouponDate}
 use Rattle.cash_amount.specs.Amounts.{isCurrency, upTo}
-use Rattle.bond.specs.declared.NoteNumber.{NoteNumber}
 use Rattle.bond.specs.declared.Note.{Note}
 use Rattle.bond.specs.declared.NoteAnswer.{NoteAnswer}
 use Rattle.bond.specs.declared.NoteAnswer.the-variants as note-answer
+-- the limits of its number and of its rate, passed on beside the checks that cite them
+unfoldable pub use Rattle.note_limits.specs.Limits.{isNoteNumber, isRate}
 
 -- the outcome that an answer is
 abbrev pub noteOutcome : NoteAnswer → Outcome Note
 noteOutcome (note-answer.Note n) = given n
 noteOutcome (note-answer.Refused n) = refused n
-
--- number: 1 to 10 digits
-unfoldable pub isNoteNumber : NoteNumber → Bool
-isNoteNumber n = both (both (leb 1 (n .count)) (leb (n .count) 10)) (ltb (n .digits) (10 ^ n .count))
-
--- the sign bit, which a zero has too
-abbrev pub signBit : Float → Bool
-signBit nan = false
-signBit (inf s) = s
-signBit (fin s m e) = s
-
--- rate in percent: finite, 0 to 100, a zero with its sign bit set refused
-unfoldable pub isRate : Float → Bool
-isRate x = both (not (signBit x)) (upTo 100 x)
 
 -- position: finite, from -1e9 to 1e9
 unfoldable pub isPosition : Float → Bool

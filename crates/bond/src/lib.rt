@@ -2,7 +2,7 @@
 ghost use mathlib.Core.Path.{_≡_};
 ghost use Rattle.calendar.specs.Answers.{dateOutcome};
 ghost use Rattle.time_period.specs.Steps.{needsTable};
-ghost use Rattle.bond.specs.Notes.{isNoteNumber, isRate, isPosition, noteOutcome, periodChecks, termChecks, inYearOf, interestOn, nominalOf, couponAmount, ChecksPromise, NotePromise, FirstEndPromise};
+ghost use Rattle.bond.specs.Notes.{isPosition, noteOutcome, periodChecks, termChecks, inYearOf, interestOn, nominalOf, couponAmount, ChecksPromise, NotePromise, FirstEndPromise};
 use calendar::Date;
 use calendar::DateAnswer;
 use cash_amount::Currency;
@@ -10,14 +10,9 @@ use coupon_date::CouponAnswer;
 use coupon_date::CouponDate;
 use day_adjust::DayAdjust;
 use day_count_conv::DayCountConv;
+use note_limits::NoteNumber;
 use time_period::TimePeriod;
 use time_period::TimePeriodUnit;
-
-// How many digits, and the digits as a number: 00417 and 417 are two numbers.
-pub struct NoteNumber {
-    pub count: u32,
-    pub digits: u64,
-}
 
 pub struct Note {
     pub number: NoteNumber,
@@ -38,43 +33,6 @@ pub enum NoteAnswer {
 }
 
 const LAST_YEAR: u32 = 9999;
-
-// From these bits on a number has its sign bit set or is not finite.
-const NO_RATE: u64 = 0x7ff0_0000_0000_0000;
-
-// 1 to 10 digits, and no digit that does not fit in them.
-pub fn is_note_number(number: NoteNumber) -> bool
-    ensures { λ r. ⌜ r ≡ isNoteNumber number ⌝ }
-{
-    let count = number.count;
-    let digits = number.digits;
-    match count {
-        1 => digits < 10,
-        2 => digits < 100,
-        3 => digits < 1_000,
-        4 => digits < 10_000,
-        5 => digits < 100_000,
-        6 => digits < 1_000_000,
-        7 => digits < 10_000_000,
-        8 => digits < 100_000_000,
-        9 => digits < 1_000_000_000,
-        10 => digits < 10_000_000_000,
-        _ => false,
-    }
-}
-
-// Finite, from 0 to 100, the sign bit clear.
-pub fn is_rate(rate: f64) -> bool
-    ensures { λ r. ⌜ r ≡ isRate rate ⌝ }
-{
-    if rate != rate {
-        return false;
-    }
-    if NO_RATE <= f64::to_bits(rate) {
-        return false;
-    }
-    rate <= 100.0
-}
 
 // Finite, from -1e9 to 1e9; a negative zero is one of them.
 pub fn is_position(position: f64) -> bool
@@ -134,10 +92,10 @@ fn check_terms(note: Note, table: bool) -> NoteAnswer
 pub fn check_note_with(note: Note, position: bool, table: bool) -> NoteAnswer
     ensures { λ r. ⌜ ChecksPromise position table note r ⌝ }
 {
-    if !is_note_number(note.number) {
+    if !note_limits::is_note_number(note.number) {
         return NoteAnswer::Refused(paper::MALFORMED_RECORD);
     }
-    if !is_rate(note.rate) {
+    if !note_limits::is_rate(note.rate) {
         return NoteAnswer::Refused(paper::NUMBER_OUT_OF_LIMITS);
     }
     if !position {

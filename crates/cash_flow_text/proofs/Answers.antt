@@ -1,5 +1,5 @@
 -- Laws of the answers: which of them the tests leave, and what they say of the bytes. Assumes nothing.
-use Prim.Native.Nat.{ℕ, _+_, _≤_, _<_}
+use Prim.Native.Nat.{ℕ, _+_}
 use mathlib.Core.Path.{_≡_, refl, sym, ap}
 use mathlib.Core.Bool.{Bool, true, false}
 use mathlib.Core.List.{List}
@@ -8,29 +8,14 @@ use lib.Ieee.{Float}
 use lib.Ieee.Scale.{finite}
 use Rattle.paper.specs.Outcome.{Outcome, given, refused, unless, andThen}
 use Rattle.paper.proofs.Outcomes.{given-injective, given-not-refused, refused-injective, unless-given}
-use Rattle.text.specs.Writing.{Wrote, writtenLength}
-use Rattle.text.proofs.Writers.{written-fits, written-refused}
 use Rattle.calendar.specs.Dates.{isDate}
-use Rattle.calendar.specs.declared.Date.{Date}
 use Rattle.cash_amount.specs.Amounts.{isCurrency}
 use Rattle.cash_amount.specs.declared.Currency.{Currency}
 use Rattle.cash_flow.specs.declared.CashFlow.{CashFlow}
 use Rattle.decimal.specs.Decimal.{decimalLength}
 use Rattle.decimal.proofs.Answers.{given-finite, refused-infinite}
-use Rattle.cash_flow_text.specs.Texts.{dateText, amountText, flowText, dateShown, amountShown, flowShown, shownBytes}
+use Rattle.cash_flow_text.specs.Texts.{amountText, flowText, amountShown, flowShown}
 use Rattle.cash_flow_text.proofs.Lengths.{amount-long, flow-long}
-
--- ---- any text that may be refused: written with room, not written without it, refused
-
-module _ (o : Outcome (List ℕ)) (d : List ℕ) where
-  pub writes-all : (xs e : List ℕ) (r : ℕ) → o ≡ given xs → Wrote d e 0 xs r → length xs ≤ length d → (given r ≡ andThen o (writtenLength d)) × (e ≡ shownBytes d o)
-  writes-all xs e r q w h = rw (q) (written-fits d e xs r w h)
-
-  pub writes-short : (xs : List ℕ) → o ≡ given xs → length d < length xs → (refused 16 ≡ andThen o (writtenLength d)) × (d ≡ shownBytes d o)
-  writes-short xs q h = rw (q) (written-refused d xs h)
-
-  pub writes-none : (n : ℕ) → o ≡ refused n → (refused n ≡ andThen o (writtenLength d)) × (d ≡ shownBytes d o)
-  writes-none n q = rw (q) (refl, refl)
 
 -- what an answer about its length says of it
 pub takes-given : (o : Outcome (List ℕ)) (k : ℕ) → given k ≡ andThen o (λ xs. given (length xs)) → (xs : List ℕ) × (o ≡ given xs) × (k ≡ length xs)
@@ -40,16 +25,6 @@ takes-given (refused n) k e = absurd (given-not-refused e)
 pub takes-refused : (o : Outcome (List ℕ)) (n : ℕ) → refused n ≡ andThen o (λ xs. given (length xs)) → o ≡ refused n
 takes-refused (given xs) n e = absurd (given-not-refused (sym e))
 takes-refused (refused m) n e = ap refused (sym (refused-injective e))
-
--- ---- a date
-
-pub date-given : (t : Date) → isDate t ≡ true → dateShown t ≡ given (dateText t)
-unfolding dateShown
-date-given t h = rw (h)
-
-pub date-refused : (t : Date) → isDate t ≡ false → dateShown t ≡ refused 1
-unfolding dateShown
-date-refused t h = rw (h)
 
 -- ---- an amount
 

@@ -1,8 +1,8 @@
--- How long the texts are: a date that exists takes 10 bytes, and no finite f64 takes more than 315. Assumes nothing.
-use Prim.Native.Nat.{ℕ, zero, suc, _+_, _*_, _/_, _%_, _^_, _≤_, _<_, max, zero-le}
-use mathlib.Core.Path.{_≡_, sym, ap, _∙_, subst}
+-- How long the texts are: no finite f64 takes more than 315 bytes. Assumes nothing.
+use Prim.Native.Nat.{ℕ, zero, suc, _+_, _*_, _/_, _%_, _^_, _≤_, _<_, zero-le}
+use mathlib.Core.Path.{_≡_, sym, subst}
 use mathlib.Core.Bool.{Bool, true, _&&_}
-use mathlib.Core.List.{_∷_, _++_}
+use mathlib.Core.List.{_∷_}
 use native.Mathlib.Nat.{zero-mul, lt-of-le-of-lt, le-of-lt, le-of-eq, le-trans, div-le-of-le-mul}
 use native.Mathlib.Omega.{arith}
 use lib.Dec.{T, leb, ltb, eqb, ltb→lt, lit<}
@@ -14,40 +14,19 @@ use lib.Ieee.Nearest.{closest-mono}
 use lib.Ieee.Scale.{finite}
 use Rattle.rounding.specs.Close.{signed}
 use Rattle.rounding.proofs.Integers.{signed-parts}
-use Rattle.text.specs.Writing.{digits, places, paddedText, decimalText}
-use Rattle.text.proofs.Digits.{length-digits, places-least, decimal-within}
+use Rattle.text.specs.Writing.{decimalText}
+use Rattle.text.proofs.Digits.{decimal-within}
 use Rattle.calendar.specs.Dates.{isDate}
-use Rattle.calendar.specs.declared.Date.{Date}
-use Rattle.calendar.proofs.Dates.{date-yes}
-use Rattle.gregorian.proofs.Months.{at-most}
 use Rattle.cash_amount.specs.Amounts.{currencyText}
 use Rattle.cash_amount.specs.declared.Currency.{Currency}
 use Rattle.cash_flow.specs.declared.CashFlow.{CashFlow}
 use Rattle.decimal.specs.Decimal.{isMinus, tenThousandths, decimalText16}
 use Rattle.decimal.proofs.Halves.{closest-whole}
 use Rattle.decimal.proofs.Texts.{signed-long, four-long, sign-short}
-use Rattle.cash_flow_text.specs.Texts.{dateText, amountText, flowText}
-
--- ---- a date that exists: every number of its has as many digits as it is padded to
-
-padded-few : (k n : ℕ) → 1 ≤ k → n < 10 ^ k → paddedText k n ≡ digits k n
-unfolding paddedText
-padded-few k n h l = let e : max k (places n) ≡ k = omega (arith, places-least k n h l) in rw (e)
-
-pub date-digits : (t : Date) → isDate t ≡ true → dateText t ≡ digits 4 (t .year) ++ ((45 ∷ digits 2 (t .month)) ++ (45 ∷ digits 2 (t .day)))
-unfolding dateText
-date-digits t h =
-    let d = date-yes t h in
-    let most = at-most (t .year) (t .month) in
-    rw (padded-few 4 (t .year) (omega arith) (omega arith), padded-few 2 (t .month) (omega arith) (omega arith), padded-few 2 (t .day) (omega arith) (omega arith))
-
-pub month-day-long : (m d : ℕ) → length ((45 ∷ digits 2 m) ++ (45 ∷ digits 2 d)) ≡ 6
-month-day-long m d = omega (arith, length-append (45 ∷ digits 2 m) (45 ∷ digits 2 d), length-digits 2 m, length-digits 2 d)
-
-pub date-long : (t : Date) → isDate t ≡ true → length (dateText t) ≡ 10
-date-long t h =
-    let rest = (45 ∷ digits 2 (t .month)) ++ (45 ∷ digits 2 (t .day)) in
-    ap length (date-digits t h) ∙ omega (arith, length-append (digits 4 (t .year)) rest, length-digits 4 (t .year), month-day-long (t .month) (t .day))
+use Rattle.date_text.specs.DateTexts.{dateText}
+use Rattle.date_text.proofs.Dates.{date-long}
+use Rattle.date_text.specs.DateTexts.{dateText}
+use Rattle.cash_flow_text.specs.Texts.{amountText, flowText}
 
 -- ---- a finite f64 is at most 2 ^ 1024, whose decimal has 309 digits
 

@@ -1,40 +1,31 @@
--- No second outcome meets a promise: each fixes the answer and the bytes. A refusal's number is never 0, and it leaves the
--- bytes as they were. Assumes nothing.
+-- No second outcome meets a promise: each fixes the answer and the bytes. A refusal's number is never 0.
+-- Assumes nothing.
 use Prim.Native.Nat.{ℕ}
-use mathlib.Core.Path.{_≡_, refl, sym, _∙_}
-use mathlib.Core.Bool.{Bool, true, false}
+use mathlib.Core.Path.{_≡_, sym, _∙_}
 use mathlib.Core.List.{List}
 use native.Mathlib.Omega.{arith}
-use lib.Dec.{leb}
 use lib.ListN.{length}
 use lib.Ieee.{Float}
 use lib.Ieee.Scale.{finite}
-use Rattle.paper.specs.Outcome.{Outcome, given, refused, unless, andThen, pick, Numbered}
-use Rattle.paper.proofs.Outcomes.{given-not-refused, unless-numbered, then-numbered}
-use Rattle.text.specs.Writing.{writtenLength, writtenBytes, put}
+use Rattle.paper.specs.Outcome.{Outcome, given, andThen, Numbered}
+use Rattle.paper.proofs.Outcomes.{unless-numbered, then-numbered}
+use Rattle.text.specs.Writing.{writtenLength}
 use Rattle.text.specs.declared.LengthAnswer.{LengthAnswer}
 use Rattle.text.proofs.OneOutcome.{same-length}
-use Rattle.text.proofs.Writers.{written-numbered}
 use Rattle.calendar.specs.Dates.{isDate}
-use Rattle.calendar.specs.declared.Date.{Date}
 use Rattle.cash_amount.specs.Amounts.{isCurrency}
 use Rattle.cash_amount.specs.declared.Currency.{Currency}
 use Rattle.cash_flow.specs.declared.CashFlow.{CashFlow}
-use Rattle.cash_flow_text.specs.Texts.{dateShown, amountShown, flowShown, Takes, Writes, shownBytes, AmountTakes, FlowTakes, DateWrites, AmountWrites, FlowWrites}
+use Rattle.date_text.proofs.OneOutcome.{one-writes, writes-numbered}
+use Rattle.cash_flow_text.specs.Texts.{amountShown, flowShown, Takes, AmountTakes, FlowTakes, AmountWrites, FlowWrites}
 
 -- ---- whatever the text
 
 one-takes : (o : Outcome (List ℕ)) (r s : LengthAnswer) → Takes o r → Takes o s → r ≡ s
 one-takes o r s p q = same-length r s (p ∙ sym q)
 
-one-writes : (o : Outcome (List ℕ)) (d e f : List ℕ) (r s : LengthAnswer) → Writes o d e r → Writes o d f s → (r ≡ s) × (e ≡ f)
-one-writes o d e f r s p q = (same-length r s (p .0 ∙ sym (q .0)), p .1 ∙ sym (q .1))
-
 takes-numbered : (o : Outcome (List ℕ)) → Numbered o → Numbered (andThen o (λ xs. given (length xs)))
 takes-numbered o h = then-numbered o (λ xs. given (length xs)) h (λ xs. omega arith)
-
-writes-numbered : (o : Outcome (List ℕ)) (d : List ℕ) → Numbered o → Numbered (andThen o (writtenLength d))
-writes-numbered o d h = then-numbered o (writtenLength d) h (written-numbered d)
 
 -- ---- one outcome to each question
 
@@ -44,9 +35,6 @@ one-amount-length x c r s p q = one-takes (amountShown x c) r s p q
 pub one-flow-length : (f : CashFlow) (r s : LengthAnswer) → FlowTakes f r → FlowTakes f s → r ≡ s
 one-flow-length f r s p q = one-takes (flowShown f) r s p q
 
-pub one-date : (t : Date) (d e f : List ℕ) (r s : LengthAnswer) → DateWrites t d e r → DateWrites t d f s → (r ≡ s) × (e ≡ f)
-one-date t d e f r s p q = one-writes (dateShown t) d e f r s p q
-
 pub one-amount : (x : Float) (c : Currency) (d e f : List ℕ) (r s : LengthAnswer) → AmountWrites x c d e r → AmountWrites x c d f s → (r ≡ s) × (e ≡ f)
 one-amount x c d e f r s p q = one-writes (amountShown x c) d e f r s p q
 
@@ -54,10 +42,6 @@ pub one-flow : (w : CashFlow) (d e f : List ℕ) (r s : LengthAnswer) → FlowWr
 one-flow w d e f r s p q = one-writes (flowShown w) d e f r s p q
 
 -- ---- every refusal has its number
-
-date-shown-numbered : (t : Date) → Numbered (dateShown t)
-unfolding dateShown
-date-shown-numbered t = unless-numbered (isDate t) 1 _ (omega arith) (omega arith)
 
 amount-shown-numbered : (x : Float) (c : Currency) → Numbered (amountShown x c)
 unfolding amountShown
@@ -76,22 +60,8 @@ amount-length-numbered x c = takes-numbered (amountShown x c) (amount-shown-numb
 pub flow-length-numbered : (f : CashFlow) → Numbered (andThen (flowShown f) (λ xs. given (length xs)))
 flow-length-numbered f = takes-numbered (flowShown f) (flow-shown-numbered f)
 
-pub date-numbered : (t : Date) (d : List ℕ) → Numbered (andThen (dateShown t) (writtenLength d))
-date-numbered t d = writes-numbered (dateShown t) d (date-shown-numbered t)
-
 pub amount-numbered : (x : Float) (c : Currency) (d : List ℕ) → Numbered (andThen (amountShown x c) (writtenLength d))
 amount-numbered x c d = writes-numbered (amountShown x c) d (amount-shown-numbered x c)
 
 pub flow-numbered : (f : CashFlow) (d : List ℕ) → Numbered (andThen (flowShown f) (writtenLength d))
 flow-numbered f d = writes-numbered (flowShown f) d (flow-shown-numbered f)
-
--- ---- a refusal leaves the bytes as they were, whatever the text
-
-room-kept : (l : Bool) (n k : ℕ) (d e : List ℕ) → unless l 16 (given k) ≡ refused n → pick l e d ≡ d
-room-kept true n k d e q = absurd (given-not-refused q)
-room-kept false n k d e q = refl
-
-pub refused-kept : (o : Outcome (List ℕ)) (d : List ℕ) (n : ℕ) → andThen o (writtenLength d) ≡ refused n → shownBytes d o ≡ d
-unfolding writtenLength writtenBytes
-refused-kept (given xs) d n q = room-kept (leb (length xs) (length d)) n (length xs) d (put d 0 xs) q
-refused-kept (refused m) d n q = refl

@@ -1,23 +1,19 @@
--- Dates, amounts and cash flows as text, and what is refused. Assumes nothing.
+-- Amounts and cash flows as text, and what is refused. Assumes nothing.
 use Prim.Native.Nat.{ℕ}
 use mathlib.Core.Path.{_≡_}
 use mathlib.Core.List.{List, _∷_, _++_}
 use lib.ListN.{length}
 use lib.Ieee.{Float}
 use lib.Ieee.Scale.{finite}
-use Rattle.paper.specs.Outcome.{Outcome, given, refused, unless, andThen}
-use Rattle.text.specs.Writing.{paddedText, writtenLength, writtenBytes, lengthOutcome}
+use Rattle.paper.specs.Outcome.{Outcome, given, unless, andThen}
+use Rattle.text.specs.Writing.{lengthOutcome}
 use Rattle.text.specs.declared.LengthAnswer.{LengthAnswer}
 use Rattle.calendar.specs.Dates.{isDate}
-use Rattle.calendar.specs.declared.Date.{Date}
+use Rattle.date_text.specs.DateTexts.{dateText, Writes}
 use Rattle.cash_amount.specs.Amounts.{isCurrency, currencyText}
 use Rattle.cash_amount.specs.declared.Currency.{Currency}
 use Rattle.cash_flow.specs.declared.CashFlow.{CashFlow}
 use Rattle.decimal.specs.Decimal.{decimalText16}
-
--- yyyy-mm-dd
-unfoldable pub dateText : Date → List ℕ
-dateText t = paddedText 4 (t .year) ++ ((45 ∷ paddedText 2 (t .month)) ++ (45 ∷ paddedText 2 (t .day)))
 
 -- an amount in at least 16 columns with 4 decimals, a blank, and the currency
 unfoldable pub amountText : Float → Currency → List ℕ
@@ -26,10 +22,6 @@ amountText x c = decimalText16 x ++ (32 ∷ currencyText c)
 -- a flow: its date, a blank, and its amount
 unfoldable pub flowText : CashFlow → List ℕ
 flowText f = dateText (f .date) ++ (32 ∷ amountText (f .amount) (f .currency))
-
--- 1: no such date
-unfoldable pub dateShown : Date → Outcome (List ℕ)
-dateShown t = unless (isDate t) 1 (given (dateText t))
 
 -- 15: not finite; 17: currency malformed
 unfoldable pub amountShown : Float → Currency → Outcome (List ℕ)
@@ -43,15 +35,6 @@ flowShown f = unless (finite (f .amount)) 15 (unless (isCurrency (f .currency)) 
 abbrev pub Takes : Outcome (List ℕ) → LengthAnswer → Type 0
 Takes o r = lengthOutcome r ≡ andThen o (λ xs. given (length xs))
 
--- the bytes d once it is written at their start: all the old ones where it was refused
-abbrev pub shownBytes : List ℕ → Outcome (List ℕ) → List ℕ
-shownBytes d (given xs) = writtenBytes d xs
-shownBytes d (refused n) = d
-
--- what a writer promises of the old bytes d, the new bytes e and its answer r: its refusal, then 16, then the text's length
-abbrev pub Writes : Outcome (List ℕ) → List ℕ → List ℕ → LengthAnswer → Type 0
-Writes o d e r = (lengthOutcome r ≡ andThen o (writtenLength d)) × (e ≡ shownBytes d o)
-
 -- what the entry points promise: the length of an amount and of a flow
 abbrev pub AmountTakes : Float → Currency → LengthAnswer → Type 0
 AmountTakes x c r = Takes (amountShown x c) r
@@ -59,10 +42,7 @@ AmountTakes x c r = Takes (amountShown x c) r
 abbrev pub FlowTakes : CashFlow → LengthAnswer → Type 0
 FlowTakes f r = Takes (flowShown f) r
 
--- and the text of a date, an amount and a flow
-abbrev pub DateWrites : Date → List ℕ → List ℕ → LengthAnswer → Type 0
-DateWrites t d e r = Writes (dateShown t) d e r
-
+-- and the text of an amount and of a flow
 abbrev pub AmountWrites : Float → Currency → List ℕ → List ℕ → LengthAnswer → Type 0
 AmountWrites x c d e r = Writes (amountShown x c) d e r
 

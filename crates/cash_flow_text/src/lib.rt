@@ -1,51 +1,20 @@
-// Dates, amounts and cash flows as text, as finql's `Display` writes them.
+// Amounts and cash flows as text, as finql's `Display` writes them.
 ghost use mathlib.Core.Path.{_≡_};
 ghost use mathlib.Core.Bool.{true};
-ghost use mathlib.Core.List.{_∷_, _++_};
+ghost use mathlib.Core.List.{_∷_};
 ghost use Prim.Native.Nat.{_+_, _≤_};
 ghost use lib.ListN.{length};
 ghost use lib.Ieee.Scale.{finite};
-ghost use Rattle.text.specs.Writing.{digits, Wrote};
+ghost use Rattle.text.specs.Writing.{Wrote};
 ghost use Rattle.calendar.specs.Dates.{isDate};
 ghost use Rattle.cash_amount.specs.Amounts.{currencyText};
-ghost use Rattle.cash_flow_text.specs.Texts.{dateText, amountText, flowText, AmountTakes, FlowTakes, DateWrites, AmountWrites, FlowWrites};
-use calendar::Date;
+ghost use Rattle.cash_flow_text.specs.Texts.{amountText, flowText, AmountTakes, FlowTakes, AmountWrites, FlowWrites};
 use cash_amount::Currency;
 use cash_flow::CashFlow;
 use text::LengthAnswer;
 
-// Every date of the calendar takes as many bytes.
-const DATE_LENGTH: usize = 10;
-
 // A blank and three letters.
 const CURRENCY_LENGTH: usize = 4;
-
-// A hyphen and two digits.
-fn put_two(n: u32, out: &mut [u8], at: usize) -> usize
-    requires { ⌜ at + 3 ≤ length (now out) ⌝ }
-    ensures { λ r. ⌜ Wrote (now (out .entry)) (now (out .exit)) at (45 ∷ digits 2 n) r ⌝ }
-{
-    out[at] = b'-';
-    text::put_digits(n as u64, 2, out, at + 1)
-}
-
-fn put_month_and_day(t: Date, out: &mut [u8], at: usize) -> usize
-    requires { ⌜ at + 6 ≤ length (now out) ⌝ }
-    ensures { λ r. ⌜ Wrote (now (out .entry)) (now (out .exit)) at ((45 ∷ digits 2 (t .month)) ++ (45 ∷ digits 2 (t .day))) r ⌝ }
-{
-    let next = put_two(t.month, out, at);
-    put_two(t.day, out, next)
-}
-
-// Inner: the caller has seen that the date exists and that there is room. yyyy-mm-dd.
-pub fn put_date_at(t: Date, out: &mut [u8], at: usize) -> usize
-    requires { ⌜ isDate t ≡ true ⌝ }
-    requires { ⌜ at + length (dateText t) ≤ length (now out) ⌝ }
-    ensures { λ r. ⌜ Wrote (now (out .entry)) (now (out .exit)) at (dateText t) r ⌝ }
-{
-    let next = text::put_digits(t.year as u64, 4, out, at);
-    put_month_and_day(t, out, next)
-}
 
 // A blank and the currency.
 fn put_currency(c: Currency, out: &mut [u8], at: usize) -> usize
@@ -82,7 +51,7 @@ pub fn put_cash_flow_at(flow: CashFlow, out: &mut [u8], at: usize) -> usize
     requires { ⌜ at + length (flowText flow) ≤ length (now out) ⌝ }
     ensures { λ r. ⌜ Wrote (now (out .entry)) (now (out .exit)) at (flowText flow) r ⌝ }
 {
-    let next = put_date_at(flow.date, out, at);
+    let next = date_text::put_date_at(flow.date, out, at);
     put_behind(flow.amount, flow.currency, out, next)
 }
 
@@ -110,23 +79,10 @@ pub fn cash_flow_length(flow: CashFlow) -> LengthAnswer
             if !calendar::is_date(flow.date) {
                 return LengthAnswer::Refused(paper::INVALID_DATE);
             }
-            LengthAnswer::Length(DATE_LENGTH + 1 + k)
+            LengthAnswer::Length(date_text::DATE_LENGTH + 1 + k)
         }
         LengthAnswer::Refused(n) => LengthAnswer::Refused(n),
     }
-}
-
-// What `Display` of a date writes.
-pub fn write_date(t: Date, out: &mut [u8]) -> LengthAnswer
-    ensures { λ r. ⌜ DateWrites t (now (out .entry)) (now (out .exit)) r ⌝ }
-{
-    if !calendar::is_date(t) {
-        return LengthAnswer::Refused(paper::INVALID_DATE);
-    }
-    if out.len() < DATE_LENGTH {
-        return LengthAnswer::Refused(paper::TOO_FEW_PLACES);
-    }
-    LengthAnswer::Length(put_date_at(t, out, 0))
 }
 
 // What `Display` of a `CashAmount` writes.

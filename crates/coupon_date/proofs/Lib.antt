@@ -1,4 +1,2 @@
-pub mod Parts
-pub mod Texts
 pub mod OneOutcome
 pub mod Examples

@@ -14,7 +14,8 @@ use Rattle.date_step.specs.Steps.{existingDate, landing, monthsLater, yearsLate
 use Rattle.holidays.specs.Table.{ascendsFrom, isTable, listed}
 use Rattle.holidays.specs.Business.{isWeekend, isBusiness, firstOf, nextFrom, lastOf, prevFrom}
 use Rattle.time_period.specs.Periods.{monthsFrequency, yearsFrequency, frequencyOf}
-use Rattle.time_period.specs.Steps.{inverseOf, addTo, subFrom}
+use Rattle.time_period.specs.Steps.{inverseOf}
+use Rattle.period_steps.specs.Added.{addTo, subFrom}
 use Rattle.coupon_date.specs.Coupons.{couponDate}
 use Rattle.day_adjust.specs.Adjustment.{nextDate, prevDate, modifiedDate, adjusted, adjustDate}
 use Rattle.day_fraction.specs.Exact.{Exact}
@@ -25,7 +26,8 @@ use Rattle.day_count_conv.specs.declared.DayCountConv.{DayCountConv}
 use Rattle.day_count_conv.specs.declared.Extras.{Extras}
 use Rattle.day_count_conv.proofs.Bounds.{year-within}
 use Rattle.cash_amount.specs.Amounts.{isCapital, isCurrency}
-use Rattle.bond.specs.Notes.{isNoteNumber, isRate, periodChecks, termChecks, noteChecks, inYearOf, firstCouponEnd}
+use Rattle.note_limits.specs.Limits.{isNoteNumber, isRate}
+use Rattle.bond.specs.Notes.{periodChecks, termChecks, noteChecks, inYearOf, firstCouponEnd}
 use Rattle.accrued_interest.specs.Accrued.{nextPeriod, goesOn, periodWithin, periodHolding, amountDue, accruedIn, accruedFrom, accruedOn, accrued}
 use Rattle.desk_card.specs.Card.{Fraction, DeskCard}
 

@@ -8,7 +8,8 @@ use lib.IntN.{ℤ, pos, _*ℤ_}
 use lib.Ieee.{fin}
 use Rattle.paper.specs.Outcome.{Outcome, given, refused}
 use Rattle.calendar.specs.declared.Date.{Date}
-use Rattle.time_period.specs.Steps.{absent, addTo, subFrom}
+use Rattle.period_steps.specs.Added.{addTo, subFrom}
+use Rattle.time_period.specs.Steps.{absent}
 use Rattle.time_period.specs.declared.TimePeriod.{TimePeriod}
 use Rattle.time_period.specs.declared.TimePeriodUnit.the-variants as unit
 use Rattle.day_adjust.specs.Adjustment.{adjustDate}

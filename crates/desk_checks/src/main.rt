@@ -2,7 +2,6 @@
 ghost use mathlib.Core.Path.{_≡_};
 ghost use lib.ListN.{length};
 use bond::Note;
-use bond::NoteNumber;
 use calendar::Date;
 use calendar::DateAnswer;
 use calendar::Day;
@@ -17,6 +16,7 @@ use day_count_conv::RollDate;
 use day_count_conv::RollPeriod;
 use day_count_conv::YearFraction;
 use libc::STDOUT_FILENO;
+use note_limits::NoteNumber;
 use time_period::TimePeriod;
 use time_period::TimePeriodUnit;
 
@@ -55,7 +55,7 @@ fn print_text(s: &[u8]) {
 
 fn print_date(t: Date) {
     let mut out = [0u8; 32];
-    cash_flow_text::write_date(t, &mut out);
+    date_text::write_date(t, &mut out);
     print_text(&out);
 }
 
@@ -67,7 +67,7 @@ fn print_period(p: TimePeriod) {
 
 fn print_coupon(c: CouponDate) {
     let mut out = [0u8; 32];
-    coupon_date::write_coupon_date(c, &mut out);
+    coupon_text::write_coupon_date(c, &mut out);
     print_text(&out);
 }
 
@@ -241,16 +241,16 @@ fn ask_step(c: Tally, row: u8, from: u32, sign: u8, num: i32, unit: u8, want: u3
     print_byte(sign);
     print_period(p);
     if sign == b'-' {
-        return told_date(c, time_period::sub_from(p, t), want);
+        return told_date(c, period_steps::sub_from(p, t), want);
     }
-    told_date(c, time_period::add_to(p, t), want)
+    told_date(c, period_steps::add_to(p, t), want)
 }
 
 // dd.mm text.
 fn ask_coupon(c: Tally, s: &[u8], want: u32) -> Tally {
     print_bytes(b"- coupon ");
     print_bytes(s);
-    told_coupon(c, coupon_date::read_coupon_date(s), want)
+    told_coupon(c, coupon_text::read_coupon_date(s), want)
 }
 
 // A date adjusted under a table.

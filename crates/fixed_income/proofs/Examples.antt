@@ -7,12 +7,11 @@ use lib.Ieee.{Float}
 use Rattle.paper.specs.Outcome.{given, refused}
 use Rattle.room.specs.Room.{roomAfter}
 use Rattle.gregorian.specs.Gregorian.{leap, lengthIn, monthLength}
-use Rattle.calendar.specs.Dates.{isDate, isDay, isBefore}
-use Rattle.calendar.specs.declared.Day.{Day}
+use Rattle.calendar.specs.Dates.{isDate, isBefore}
 use Rattle.calendar.specs.declared.Date.{Date}
 use Rattle.cash_flow.specs.declared.CashFlow.{CashFlow}
-use Rattle.fixed_income.specs.After.{laterOf, allOf, flowsAfter, Listed, listed, listedAfter}
-use Rattle.fixed_income.specs.Promises.{recordsWritten, listedWritten}
+use Rattle.fixed_income.specs.After.{laterOf, allOf, flowsAfter}
+use Rattle.fixed_income.specs.Promises.{recordsWritten}
 
 abbrev on : ℕ → ℕ → ℕ → Date
 on y m d = record { year = y; month = m; day = d }
@@ -50,31 +49,4 @@ records a b c =
       too-few-places = refl;
       date-first = refl;
       room-past-it = refl;
-    }
-
-abbrev serial : ℕ → Day
-serial n = record { 0 = n }
-
-abbrev flow : ℕ → ℕ → Float → Listed
-flow d c x = record { day = d; currency = c; amount = x }
-
--- four days, three currencies, three amounts: three flows
-pub record Lists (a b c : Float) : Type 0 where
-  pub shortest : listed (3 ∷ 5 ∷ 7 ∷ 9 ∷ []) (1 ∷ 1 ∷ 2 ∷ []) (a ∷ b ∷ c ∷ []) ≡ flow 3 1 a ∷ flow 5 1 b ∷ flow 7 2 c ∷ []
-  pub strictly : listedAfter (serial 5) (flow 3 1 a ∷ flow 5 1 b ∷ flow 7 2 c ∷ []) ≡ given (flow 7 2 c ∷ [])
-  pub no-day-zero : listedAfter (serial 5) (flow 0 1 a ∷ []) ≡ refused 1
-  pub past-the-calendar : listedAfter (serial 3652060) [] ≡ refused 1
-  pub too-few-places : listedWritten (serial 4) (flow 5 1 b ∷ flow 7 2 c ∷ []) 1 ≡ refused 16
-  pub days-written : roomAfter (λ f. f .day) (listedWritten (serial 5) (flow 3 1 a ∷ flow 7 2 c ∷ []) 2) (1 ∷ 2 ∷ []) ≡ 7 ∷ 2 ∷ []
-
-pub lists : (a b c : Float) → Lists a b c
-unfolding isDay laterOf allOf listed listedAfter listedWritten
-lists a b c =
-    record {
-      shortest = refl;
-      strictly = refl;
-      no-day-zero = refl;
-      past-the-calendar = refl;
-      too-few-places = refl;
-      days-written = refl;
     }

@@ -6,33 +6,21 @@ use mathlib.Core.Bool.{Bool}
 use mathlib.Core.List.{List}
 use native.Mathlib.Omega.{arith}
 use lib.Dec.{leb}
-use lib.Ieee.{Float}
 use lib.ListN.{length}
 use Rattle.paper.specs.Outcome.{Outcome, given, refused, Numbered, both}
 use Rattle.paper.proofs.Outcomes.{unless-numbered}
 use Rattle.room.specs.Room.{fitting, counted}
-use Rattle.calendar.specs.Dates.{isDate, isDay}
-use Rattle.calendar.specs.declared.Day.{Day}
+use Rattle.calendar.specs.Dates.{isDate}
 use Rattle.calendar.specs.declared.Date.{Date}
 use Rattle.cash_flow.specs.declared.CashFlow.{CashFlow}
 use Rattle.cash_flow.specs.declared.FlowsAnswer.{FlowsAnswer}
 use Rattle.cash_flow.proofs.OneOutcome.{same-flows-answer}
-use Rattle.fixed_income.specs.After.{laterOf, allOf, after, hasDate, isLater, flowsAfter, Listed, isDayNumber, isLaterDay, listedAfter}
-use Rattle.fixed_income.specs.Promises.{recordsWritten, AfterPromise, listedWritten, ListedPromise}
+use Rattle.fixed_income.specs.After.{laterOf, allOf, after, hasDate, isLater, flowsAfter}
+use Rattle.fixed_income.specs.Promises.{recordsWritten, AfterPromise}
 
 -- the answer and the room
 pub one-after : (flows : List CashFlow) (date : Date) (room e f : List CashFlow) (r s : FlowsAnswer) → AfterPromise flows date room r e → AfterPromise flows date room s f → (r ≡ s) × (e ≡ f)
 one-after flows date room e f r s p q = (same-flows-answer r s (p .answer ∙ sym (q .answer)), p .contents ∙ sym (q .contents))
-
--- the answer and the three lists
-pub one-listed : (day : Day) (flows : List Listed) (ds cs : List ℕ) (xs : List Float) (r s : FlowsAnswer) (d₁ c₁ d₂ c₂ : List ℕ) (x₁ x₂ : List Float)
-    → ListedPromise day flows ds cs xs r d₁ c₁ x₁ → ListedPromise day flows ds cs xs s d₂ c₂ x₂ → (r ≡ s) × (d₁ ≡ d₂) × (c₁ ≡ c₂) × (x₁ ≡ x₂)
-one-listed day flows ds cs xs r s d₁ c₁ d₂ c₂ x₁ x₂ p q = (
-  same-flows-answer r s (p .answer ∙ sym (q .answer)),
-  p .contents .days-are ∙ sym (q .contents .days-are),
-  p .contents .currencies-are ∙ sym (q .contents .currencies-are),
-  p .contents .amounts-are ∙ sym (q .contents .amounts-are),
-)
 
 counted-numbered : {A : Type 0} (o : Outcome (List A)) → Numbered o → Numbered (counted o)
 counted-numbered (given new) h = h
@@ -42,7 +30,7 @@ fitting-numbered : {A : Type 0} (places : ℕ) (o : Outcome (List A)) → Number
 fitting-numbered places (given new) h = unless-numbered (leb (length new) places) 16 (given new) (omega arith) h
 fitting-numbered places (refused n) h = h
 
-numbered : {A : Type 0} (ok : Bool) (dated later : A → Bool) (xs : List A) (places : ℕ) → Numbered (counted (fitting places (after ok dated later xs)))
+pub numbered : {A : Type 0} (ok : Bool) (dated later : A → Bool) (xs : List A) (places : ℕ) → Numbered (counted (fitting places (after ok dated later xs)))
 numbered ok dated later xs places =
     counted-numbered (fitting places (after ok dated later xs))
     (fitting-numbered places (after ok dated later xs) (unless-numbered (both ok (allOf dated xs)) 1 (given (laterOf later xs)) (omega arith) (omega arith)))
@@ -50,7 +38,3 @@ numbered ok dated later xs places =
 pub after-numbered : (flows : List CashFlow) (date : Date) (places : ℕ) → Numbered (counted (recordsWritten flows date places))
 unfolding recordsWritten flowsAfter
 after-numbered flows date places = numbered (isDate date) hasDate (isLater date) flows places
-
-pub listed-numbered : (day : Day) (flows : List Listed) (places : ℕ) → Numbered (counted (listedWritten day flows places))
-unfolding listedWritten listedAfter
-listed-numbered day flows places = numbered (isDay day) (λ f. isDayNumber (f .day)) (λ f. isLaterDay day (f .day)) flows places

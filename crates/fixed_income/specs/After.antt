@@ -1,13 +1,9 @@
--- Flows after a date: which they are, over any kind of flow, over flows in plain lists and over records.
+-- Flows after a date: which they are, over any kind of flow and over records.
 -- Assumes nothing.
-use Prim.Native.Nat.{ℕ}
 use mathlib.Core.Bool.{Bool, true}
 use mathlib.Core.List.{List, [], _∷_}
-use lib.Dec.{ltb}
-use lib.Ieee.{Float}
 use Rattle.paper.specs.Outcome.{Outcome, given, unless, pick, both}
-use Rattle.calendar.specs.Dates.{isDate, isDay, isBefore}
-use Rattle.calendar.specs.declared.Day.{Day}
+use Rattle.calendar.specs.Dates.{isDate, isBefore}
 use Rattle.calendar.specs.declared.Date.{Date}
 use Rattle.cash_flow.specs.declared.CashFlow.{CashFlow}
 
@@ -35,27 +31,3 @@ isLater date f = isBefore date (f .date)
 -- the records after a date
 unfoldable pub flowsAfter : Date → List CashFlow → Outcome (List CashFlow)
 flowsAfter date flows = after (isDate date) hasDate (isLater date) flows
-
--- a flow in plain lists: a serial day, a currency's number, an amount
-pub record Listed : Type 0 where
-  pub day : ℕ
-  pub currency : ℕ
-  pub amount : Float
-
--- the flows of three lists: as many as the shortest of them has
-unfoldable pub listed : List ℕ → List ℕ → List Float → List Listed
-listed [] cs xs = []
-listed (d ∷ ds) [] xs = []
-listed (d ∷ ds) (c ∷ cs) [] = []
-listed (d ∷ ds) (c ∷ cs) (x ∷ xs) = record { day = d; currency = c; amount = x } ∷ listed ds cs xs
-
--- a number is a serial day of the calendar; it is strictly later than another
-abbrev pub isDayNumber : ℕ → Bool
-isDayNumber n = isDay (record { 0 = n })
-
-abbrev pub isLaterDay : Day → ℕ → Bool
-isLaterDay day n = ltb (day .0) n
-
--- the flows of three lists after a serial day
-unfoldable pub listedAfter : Day → List Listed → Outcome (List Listed)
-listedAfter day flows = after (isDay day) (λ f. isDayNumber (f .day)) (λ f. isLaterDay day (f .day)) flows

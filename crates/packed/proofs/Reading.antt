@@ -14,8 +14,9 @@ use Rattle.bond.specs.Notes.{noteChecks}
 use Rattle.bond.specs.declared.Note.{Note}
 use Rattle.bond.proofs.Ends.{passed}
 use Rattle.packed_note.specs.Codes.{unitOfCode, numberGood}
-use Rattle.packed_note.specs.Records.{rawOf, noteWith, checkedUnit, noteIn}
-use Rattle.packed_note.specs.declared.Raw.{Raw}
+use Rattle.packed_numbers.specs.Numbers.{rawOf}
+use Rattle.packed_note.specs.Records.{noteWith, checkedUnit, noteIn}
+use Rattle.packed_numbers.specs.declared.Raw.{Raw}
 use Rattle.packed.specs.Tables.{tableCount, tableDays, isWhole, isTableIn, noteInBytes, unpacked, readInto, ReadPromise}
 use Rattle.packed.specs.declared.PackedAnswer.the-variants as packed-answer
 use Rattle.packed.proofs.Tables.{length-days}

@@ -10,7 +10,8 @@ use Rattle.paper.specs.Outcome.{Outcome, given, refused, unless, andThen, pick,
 use Rattle.bit_fields.specs.Bits.{field}
 use Rattle.holidays.specs.Table.{isTable}
 use Rattle.bond.specs.declared.Note.{Note}
-use Rattle.packed_note.specs.Records.{rawOf, noteIn}
+use Rattle.packed_numbers.specs.Numbers.{rawOf}
+use Rattle.packed_note.specs.Records.{noteIn}
 use Rattle.packed.specs.declared.PackedNote.{PackedNote}
 use Rattle.packed.specs.declared.PackedAnswer.{PackedAnswer}
 use Rattle.packed.specs.declared.PackedAnswer.the-variants as packed-answer

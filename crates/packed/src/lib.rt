@@ -98,7 +98,7 @@ fn note_in_bytes(s: &[u8], days: &mut [u32]) -> NoteAnswer
         return NoteAnswer::Refused(paper::MALFORMED_RECORD);
     }
     let n = table_count(s);
-    let raw = packed_note::read_raw(s);
+    let raw = packed_numbers::read_raw(s);
     let taken = is_table_in(s, n, days);
     packed_note::note_in(raw, true, taken)
 }

@@ -11,11 +11,11 @@ use lib.Ieee.{binary64, nanBits, isNan}
 use lib.Ieee.Bits.{nanBits-is}
 use Rattle.paper.specs.Outcome.{pick, both}
 use Rattle.paper.proofs.Outcomes.{both-true}
-use Rattle.bond.specs.Notes.{isNoteNumber}
-use Rattle.bond.proofs.Limits.{low-bits}
+use Rattle.note_limits.specs.Limits.{isNoteNumber}
+use Rattle.note_limits.proofs.Limits.{low-bits}
 use Rattle.packed_note.specs.Codes.{placeGood, digitsGood, digitsNumber, numberGood}
 use Rattle.packed_note.specs.Records.{numberIn}
-use Rattle.packed_note.specs.declared.Raw.{Raw}
+use Rattle.packed_numbers.specs.declared.Raw.{Raw}
 
 pub no-nan : (b : ℕ) → b < 9218868437227405312 → T (not (nanBits binary64 b))
 unfolding isNan

@@ -14,7 +14,7 @@ use Rattle.bond.specs.declared.NoteAnswer.{NoteAnswer}
 use Rattle.bond.proofs.OneOutcome.{same-note-answer, checks-numbered}
 use Rattle.packed_note.specs.Codes.{unitOfCode, numberGood}
 use Rattle.packed_note.specs.Records.{noteWith, checkedUnit, noteIn, NoteInPromise}
-use Rattle.packed_note.specs.declared.Raw.{Raw}
+use Rattle.packed_numbers.specs.declared.Raw.{Raw}
 
 pub one-note-in : (whole table : Bool) (raw : Raw) (r s : NoteAnswer) → NoteInPromise whole table raw r → NoteInPromise whole table raw s → r ≡ s
 one-note-in whole table raw r s p q = same-note-answer r s (p ∙ sym q)

@@ -8,10 +8,10 @@ use Rattle.paper.specs.Outcome.{refused, andThen}
 use Rattle.time_period.specs.declared.TimePeriodUnit.{TimePeriodUnit}
 use Rattle.day_count_conv.specs.declared.DayCountConv.{DayCountConv}
 use Rattle.bond.specs.Notes.{noteChecks}
-use Rattle.bond.proofs.Limits.{high-bits}
+use Rattle.note_limits.proofs.Limits.{high-bits}
 use Rattle.packed_note.specs.Codes.{unitOfCode, numberGood}
 use Rattle.packed_note.specs.Records.{noteWith, checkedUnit, noteIn}
-use Rattle.packed_note.specs.declared.Raw.{Raw}
+use Rattle.packed_numbers.specs.declared.Raw.{Raw}
 use Rattle.packed_note.proofs.Numbers.{number-accepted}
 
 -- bits that are no number's are refused 15, the number of the note being good

@@ -6,12 +6,12 @@ use mathlib.Core.List.{List, [], _∷_, _++_, append-assoc}
 use native.Mathlib.Nat.{add-zero, add-assoc}
 use native.Mathlib.Omega.{arith}
 use lib.ListN.{length, drop, length-append}
-use Rattle.bit_fields.specs.Bits.{fieldBits, bitsOf, field}
+use Rattle.bit_fields.specs.Bits.{Field, fieldBits, fieldsBits, bitsOf, field}
 use Rattle.bit_fields.proofs.Bits.{length-field, field-found, field-at}
-use Rattle.packed_note.specs.Records.{rawOf}
-use Rattle.packed_note.specs.declared.Raw.{Raw}
+use Rattle.packed_numbers.specs.Numbers.{rawOf}
+use Rattle.packed_numbers.specs.declared.Raw.{Raw}
 use Rattle.packed.specs.Tables.{daysFrom}
-use Rattle.packed_write.specs.Fields.{Field, fieldsBits, rawFields, dayFields}
+use Rattle.packed_write.specs.Fields.{rawFields, dayFields}
 use Rattle.packed_write.specs.Pens.{AllFit}
 use Rattle.packed_write.proofs.Fields.{widths}
 

@@ -14,13 +14,14 @@ use Rattle.time_period.specs.declared.TimePeriodUnit.{TimePeriodUnit}
 use Rattle.day_count_conv.specs.Conventions.{conventionOf}
 use Rattle.day_count_conv.specs.declared.DayCountConv.{DayCountConv}
 use Rattle.day_count_conv.proofs.OneOutcome.{code-back}
-use Rattle.bond.specs.Notes.{isRate, noteChecks}
+use Rattle.note_limits.specs.Limits.{isRate}
+use Rattle.bond.specs.Notes.{noteChecks}
 use Rattle.bond.specs.declared.Note.{Note}
-use Rattle.bond.specs.declared.NoteNumber.{NoteNumber}
+use Rattle.note_limits.specs.declared.NoteNumber.{NoteNumber}
 use Rattle.bond.proofs.Ends.{passed}
 use Rattle.packed_note.specs.Codes.{unitOfCode, numberGood, digitsGood, digitsNumber}
 use Rattle.packed_note.specs.Records.{noteWith, checkedUnit, noteIn}
-use Rattle.packed_note.specs.declared.Raw.{Raw}
+use Rattle.packed_numbers.specs.declared.Raw.{Raw}
 use Rattle.packed_write.specs.Codes.{digitsPlaces}
 use Rattle.packed_write.specs.Fields.{rawWith}
 use Rattle.packed_write.specs.Writing.{Packable}

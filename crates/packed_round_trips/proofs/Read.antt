@@ -14,16 +14,17 @@ use lib.IntN.{pos}
 use lib.Signed.{leZ}
 use Rattle.paper.specs.Outcome.{given}
 use Rattle.paper.proofs.Outcomes.{given-injective, both-true, then-given}
-use Rattle.bit_fields.specs.Bits.{fieldBits, bitsOf, bytesOf, field, AreBytes}
+use Rattle.bit_fields.specs.Bits.{fieldBits, fieldsBits, bitsOf, bytesOf, field, AreBytes}
 use Rattle.bit_fields.proofs.Bits.{length-bits, field-at, field-below, bytes-back}
 use Rattle.holidays.specs.Table.{isTable}
 use Rattle.bond.specs.declared.Note.{Note}
-use Rattle.packed_note.specs.Records.{rawOf, noteIn}
-use Rattle.packed_note.specs.declared.Raw.{Raw}
+use Rattle.packed_numbers.specs.Numbers.{rawOf}
+use Rattle.packed_note.specs.Records.{noteIn}
+use Rattle.packed_numbers.specs.declared.Raw.{Raw}
 use Rattle.packed.specs.Tables.{tableCount, tableDays, isWhole, isTableIn, noteInBytes, Unpacked, unpacked}
 use Rattle.packed.proofs.Tables.{whole-long, whole-length, length-days, exact}
 use Rattle.packed.proofs.Reading.{bytes-given, few-days}
-use Rattle.packed_write.specs.Fields.{fieldsBits, rawFields, tableFields, rawWith, zerosBehind, wholeBytes, rawBytes}
+use Rattle.packed_write.specs.Fields.{rawFields, tableFields, rawWith, zerosBehind, wholeBytes, rawBytes}
 use Rattle.packed_write.specs.Writing.{packedNote}
 use Rattle.packed_write.proofs.Fields.{widths, length-fields, length-record}
 use Rattle.packed_round_trips.proofs.Found.{Found, found-bits, found-both, raw-found, days-found}

@@ -13,18 +13,18 @@ use lib.Signed.{leZ}
 use lib.Pow.{pow-pos}
 use Rattle.paper.specs.Outcome.{given, andThen, both}
 use Rattle.paper.proofs.Outcomes.{given-injective, both-true, unless-given, then-given}
-use Rattle.bit_fields.specs.Bits.{fieldBits, bitsOf, field, AreBytes}
+use Rattle.bit_fields.specs.Bits.{inBits, fieldBits, fieldsBits, bitsOf, field, AreBytes}
 use Rattle.bit_fields.proofs.Bits.{field-found}
 use Rattle.holidays.specs.Table.{ascendsFrom, isTable}
 use Rattle.holidays.proofs.Table.{table-ascends}
 use Rattle.bond.specs.Notes.{noteChecks}
 use Rattle.bond.specs.declared.Note.{Note}
 use Rattle.bond.proofs.Ends.{passed}
-use Rattle.packed_note.specs.Records.{rawOf}
-use Rattle.packed_note.specs.declared.Raw.{Raw}
+use Rattle.packed_numbers.specs.Numbers.{rawOf}
+use Rattle.packed_numbers.specs.declared.Raw.{Raw}
 use Rattle.packed.specs.Tables.{tableCount, daysFrom, tableDays, isWhole, isTableIn, noteInBytes, unpacked}
 use Rattle.packed.proofs.Tables.{exact}
-use Rattle.packed_write.specs.Fields.{inBits, fieldsBits, numberFields, dateFields, couponFields, termsFields, lettersFields, headFields, middleFields, tailFields, rawFields, dayFields, tableFields, rawWith, zerosBehind, rawBytes, recordBytes}
+use Rattle.packed_write.specs.Fields.{numberFields, dateFields, couponFields, termsFields, lettersFields, headFields, middleFields, tailFields, rawFields, dayFields, tableFields, rawWith, zerosBehind, rawBytes, recordBytes}
 use Rattle.packed_write.specs.Pens.{AllFit, RawFits}
 use Rattle.packed_write.specs.Writing.{packedNote, Packable}
 use Rattle.packed_write.proofs.Fields.{fields-are, length-record, whole-bits, whole-bytes, bytes-length}

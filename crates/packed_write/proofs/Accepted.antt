@@ -32,9 +32,9 @@ use Rattle.day_count_conv.specs.declared.DayCountConv.{DayCountConv}
 use Rattle.day_count_conv.specs.declared.DayCountConv.the-variants as conv
 use Rattle.holidays.specs.Table.{isTable, ascending}
 use Rattle.holidays.proofs.Table.{table-ascends, by-last}
-use Rattle.bond.specs.Notes.{isNoteNumber, isRate}
+use Rattle.note_limits.specs.Limits.{isNoteNumber, isRate}
 use Rattle.bond.specs.declared.Note.{Note}
-use Rattle.bond.specs.declared.NoteNumber.{NoteNumber}
+use Rattle.note_limits.specs.declared.NoteNumber.{NoteNumber}
 use Rattle.bond.proofs.Ends.{Accepted, passed}
 use Rattle.packed_write.specs.Codes.{unitCode, ruleCode}
 use Rattle.packed_write.specs.Fields.{dateFields, couponFields, lettersFields, lettersWith, rawWith}

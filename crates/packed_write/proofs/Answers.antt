@@ -17,9 +17,9 @@ use Rattle.day_count_conv.specs.Conventions.{codeOf}
 use Rattle.bond.specs.Notes.{noteChecks}
 use Rattle.bond.specs.declared.Note.{Note}
 use Rattle.bond.proofs.Ends.{passed}
-use Rattle.packed_note.specs.declared.Terms.{Terms}
-use Rattle.packed_note.specs.declared.Letters.{Letters}
-use Rattle.packed_note.specs.declared.Raw.{Raw}
+use Rattle.packed_numbers.specs.declared.Terms.{Terms}
+use Rattle.packed_numbers.specs.declared.Letters.{Letters}
+use Rattle.packed_numbers.specs.declared.Raw.{Raw}
 use Rattle.packed_write.specs.Codes.{unitCode, ruleCode, digitsPlaces}
 use Rattle.packed_write.specs.Fields.{termsWith, lettersWith, rawWith, recordBytes}
 use Rattle.packed_write.specs.Writing.{packedNote, Packable, WritePromise}

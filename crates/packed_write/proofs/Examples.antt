@@ -11,15 +11,16 @@ use Rattle.calendar.specs.Dates.{isDate}
 use Rattle.coupon_date.specs.Coupons.{couponDate}
 use Rattle.cash_amount.specs.Amounts.{isCapital, isCurrency}
 use Rattle.holidays.specs.Table.{ascendsFrom, isTable}
-use Rattle.bit_fields.specs.Bits.{fieldBits, continuedBits, bytesOf}
-use Rattle.bond.specs.Notes.{isNoteNumber, isRate, periodChecks, termChecks, noteChecks}
+use Rattle.bit_fields.specs.Bits.{fieldBits, fieldsBits, continuedBits, bytesOf}
+use Rattle.note_limits.specs.Limits.{isNoteNumber, isRate}
+use Rattle.bond.specs.Notes.{periodChecks, termChecks, noteChecks}
 use Rattle.bond.specs.declared.Note.{Note}
-use Rattle.bond.specs.declared.NoteNumber.{NoteNumber}
+use Rattle.note_limits.specs.declared.NoteNumber.{NoteNumber}
 use Rattle.bond.proofs.Examples.{every, numbered, listed}
 use Rattle.time_period.specs.declared.TimePeriod.{TimePeriod}
 use Rattle.time_period.specs.declared.TimePeriodUnit.the-variants as unit
 use Rattle.packed_write.specs.Codes.{digitsPlaces}
-use Rattle.packed_write.specs.Fields.{fieldsBits, dayFields, wholeBytes, rawBytes, recordBytes}
+use Rattle.packed_write.specs.Fields.{dayFields, wholeBytes, rawBytes, recordBytes}
 use Rattle.packed_write.specs.Writing.{packedNote}
 
 -- the listed note, 00417, with another number and another period

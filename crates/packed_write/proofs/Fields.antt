@@ -1,22 +1,18 @@
 -- Fields as bits, and bits as whole bytes.
 -- Assumes nothing.
-use Prim.Native.Nat.{ℕ, _+_, _-_, _*_, _/_, _<_}
+use Prim.Native.Nat.{ℕ, _+_, _*_, _/_, _<_}
 use mathlib.Core.Path.{_≡_, refl, sym, ap, _∙_}
-use mathlib.Core.List.{List, [], _∷_, _++_, append-assoc, append-nil}
+use mathlib.Core.List.{List, [], _∷_, _++_, append-assoc}
 use native.Mathlib.Numerals.{add-one}
 use native.Mathlib.Omega.{arith}
 use lib.ListN.{length, take, getD, length-append}
 use lib.Seq.{take-suc}
-use Rattle.bit_fields.specs.Bits.{fieldBits, bitsOf, AreBytes}
-use Rattle.bit_fields.proofs.Bits.{AreBits, bits-append, length-field, field-bits, length-bytes, bits-back, bytes-are}
-use Rattle.packed_note.specs.declared.Raw.{Raw}
-use Rattle.packed_write.specs.Fields.{Field, inBits, fieldsBits, rawFields, dayFields, tableFields, zerosBehind, wholeBytes, rawBytes}
+use Rattle.bit_fields.specs.Bits.{Field, inBits, fieldBits, fieldsBits, bitsOf, AreBytes}
+use Rattle.bit_fields.proofs.Bits.{AreBits, one-field, bits-append, length-field, field-bits, length-bytes, bits-back, bytes-are}
+use Rattle.packed_numbers.specs.declared.Raw.{Raw}
+use Rattle.packed_write.specs.Fields.{rawFields, dayFields, tableFields, zerosBehind, wholeBytes, rawBytes}
 
 -- ---- fields one after the other
-
-pub one-field : (f : Field) → fieldsBits (f ∷ []) ≡ fieldBits (f .width) (f .number)
-unfolding fieldsBits
-one-field f = append-nil (fieldBits (f .width) (f .number))
 
 pub fields-append : (fs gs : List Field) → fieldsBits (fs ++ gs) ≡ fieldsBits fs ++ fieldsBits gs
 unfolding fieldsBits

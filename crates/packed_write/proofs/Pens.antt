@@ -7,33 +7,20 @@ use native.Mathlib.Nat.{zero-add, add-zero}
 use native.Mathlib.Omega.{arith}
 use lib.ListN.{length, take, drop, getD, length-append}
 use lib.Seq.{drop-drop, take-length}
-use Rattle.bit_fields.specs.Bits.{fieldBits, bitsOf, bytesOf}
+use Rattle.bit_fields.specs.Bits.{Field, inBits, fieldBits, fieldsBits, bitsOf, bytesOf}
 use Rattle.bit_fields.specs.Pens.{Held, putSoFar, Drew}
 use Rattle.bit_fields.specs.declared.Pen.{Pen}
-use Rattle.bit_fields.proofs.Bits.{length-field, field-split, field-cut, length-bytes}
+use Rattle.bit_fields.proofs.Bits.{one-field, field-split, field-cut, length-bytes}
 use Rattle.bit_fields.proofs.Pens.{Inked, inked-all}
-use Rattle.packed_note.specs.declared.Raw.{Raw}
+use Rattle.packed_numbers.specs.declared.Raw.{Raw}
 use Rattle.text.specs.Writing.{put, Wrote}
-use Rattle.packed_write.specs.Fields.{Field, inBits, fieldsBits, rawFields, dayFields, tableFields, zerosBehind, wholeBytes, rawBytes}
-use Rattle.packed_write.specs.Pens.{Penned}
-use Rattle.packed_write.proofs.Fields.{one-field, fields-append, days-more, length-record, padded-length}
-
--- one field
-pub penned-one : {d e : List ℕ} {p r : Pen} {w x : ℕ} → Drew d e p r w x → Penned d e p r w (inBits w x ∷ [])
-penned-one {w = w} {x} n = record {
-  held = n .held;
-  drawn = rw (one-field (inBits w x)) (n .drawn);
-  bytes = n .bytes;
-  past = n .past;
-  same-length = n .same-length;
-  moved = n .moved;
-  counted = rw (one-field (inBits w x)) (length-field w x);
-}
+use Rattle.packed_write.specs.Fields.{rawFields, dayFields, tableFields, zerosBehind, wholeBytes, rawBytes}
+use Rattle.packed_write.proofs.Fields.{fields-append, days-more, length-record, padded-length}
 
 -- nothing
-pub penned-none : (d : List ℕ) (p : Pen) → Held p → Penned d d p p 0 []
+pub drew-none : (d : List ℕ) (p : Pen) → Held p → Drew d d p p 0 []
 unfolding fieldsBits
-penned-none d p h = record {
+drew-none d p h = record {
   held = h;
   drawn = sym (append-nil (putSoFar d p));
   bytes = λ a. a;
@@ -44,8 +31,8 @@ penned-none d p h = record {
 }
 
 -- one after the other
-pub penned-then : {d e f : List ℕ} {p q r : Pen} {m n : ℕ} {fs gs : List Field} → Penned d e p q m fs → Penned e f q r n gs → Penned d f p r (m + n) (fs ++ gs)
-penned-then {d} {e} {f} {p} {q} {r} {m} {n} {fs} {gs} a b = record {
+pub drew-then : {d e f : List ℕ} {p q r : Pen} {m n : ℕ} {fs gs : List Field} → Drew d e p q m fs → Drew e f q r n gs → Drew d f p r (m + n) (fs ++ gs)
+drew-then {d} {e} {f} {p} {q} {r} {m} {n} {fs} {gs} a b = record {
   held = b .held;
   drawn = b .drawn ∙ ap (λ (x : List ℕ). x ++ fieldsBits gs) (a .drawn) ∙ append-assoc (putSoFar d p) (fieldsBits fs) (fieldsBits gs) ∙ ap (λ (x : List ℕ). putSoFar d p ++ x) (sym (fields-append fs gs));
   bytes = λ x. b .bytes (a .bytes x);
@@ -67,8 +54,8 @@ penned-then {d} {e} {f} {p} {q} {r} {m} {n} {fs} {gs} a b = record {
         ∙ ap (λ (k : ℕ). drop k d) ahead
 
 -- the same bits as other fields
-pub penned-is : {d e : List ℕ} {p r : Pen} {m n : ℕ} {fs gs : List Field} → Penned d e p r m fs → m ≡ n → fieldsBits fs ≡ fieldsBits gs → Penned d e p r n gs
-penned-is {d} {e} {p} {r} {m} {n} {fs} {gs} a i j = record {
+pub drew-is : {d e : List ℕ} {p r : Pen} {m n : ℕ} {fs gs : List Field} → Drew d e p r m fs → m ≡ n → fieldsBits fs ≡ fieldsBits gs → Drew d e p r n gs
+drew-is {d} {e} {p} {r} {m} {n} {fs} {gs} a i j = record {
   held = a .held;
   drawn = a .drawn ∙ ap (λ (x : List ℕ). putSoFar d p ++ x) j;
   bytes = a .bytes;
@@ -86,17 +73,17 @@ halves x =
     ∙ sym (append-assoc (fieldBits 32 (x / 4294967296)) (fieldBits 32 x) [])
     ∙ ap (λ (s : List ℕ). s ++ []) (sym (field-split 32 32 x))
 
-pub penned-halves : {d e f : List ℕ} {p q r : Pen} {x : ℕ} → Drew d e p q 32 (x / 4294967296) → Drew e f q r 32 (x % 4294967296) → Penned d f p r 64 (inBits 64 x ∷ [])
-penned-halves {x = x} a b = penned-is (penned-then (penned-one a) (penned-one b)) refl (halves x)
+pub drew-halves : {d e f : List ℕ} {p q r : Pen} {x : ℕ} → Drew d e p q 32 (inBits 32 (x / 4294967296) ∷ []) → Drew e f q r 32 (inBits 32 (x % 4294967296) ∷ []) → Drew d f p r 64 (inBits 64 x ∷ [])
+drew-halves {x = x} a b = drew-is (drew-then a b) refl (halves x)
 
 -- a day behind those before it
-pub penned-day : {d e f : List ℕ} {p q r : Pen} (t : List ℕ) (i x : ℕ) → i < length t → x ≡ getD t i 0 → Penned d e p q (22 * i) (dayFields (take i t)) → Drew e f q r 22 x → Penned d f p r (22 * (i + 1)) (dayFields (take (i + 1) t))
-penned-day t i x h g a b =
-    penned-is (penned-then a (penned-one b)) (omega arith)
+pub drew-day : {d e f : List ℕ} {p q r : Pen} (t : List ℕ) (i x : ℕ) → i < length t → x ≡ getD t i 0 → Drew d e p q (22 * i) (dayFields (take i t)) → Drew e f q r 22 (inBits 22 x ∷ []) → Drew d f p r (22 * (i + 1)) (dayFields (take (i + 1) t))
+drew-day t i x h g a b =
+    drew-is (drew-then a b) (omega arith)
     (fields-append (dayFields (take i t)) (inBits 22 x ∷ []) ∙ ap (λ (s : List ℕ). fieldsBits (dayFields (take i t)) ++ s) (one-field (inBits 22 x)) ∙ sym (days-more t i x h g))
 
-pub all-days : {d e : List ℕ} {p r : Pen} (t : List ℕ) (i : ℕ) → i ≡ length t → Penned d e p r (22 * i) (dayFields (take i t)) → Penned d e p r (22 * length t) (dayFields t)
-all-days t i h a = penned-is a (ap (λ (k : ℕ). 22 * k) h) (ap (λ (s : List ℕ). fieldsBits (dayFields s)) (ap (λ (k : ℕ). take k t) h ∙ take-length t))
+pub all-days : {d e : List ℕ} {p r : Pen} (t : List ℕ) (i : ℕ) → i ≡ length t → Drew d e p r (22 * i) (dayFields (take i t)) → Drew d e p r (22 * length t) (dayFields t)
+all-days t i h a = drew-is a (ap (λ (k : ℕ). 22 * k) h) (ap (λ (s : List ℕ). fieldsBits (dayFields s)) (ap (λ (k : ℕ). take k t) h ∙ take-length t))
 
 -- ---- the whole
 
@@ -107,8 +94,8 @@ start-none : (d : List ℕ) → putSoFar d start ≡ []
 unfolding bitsOf fieldBits
 start-none d = refl
 
-pub penned-inked : {d e : List ℕ} {r : Pen} {n : ℕ} {fs : List Field} → Penned d e start r n fs → Inked d e r (fieldsBits fs)
-penned-inked {d} {fs = fs} a = record {
+pub drew-inked : {d e : List ℕ} {r : Pen} {n : ℕ} {fs : List Field} → Drew d e start r n fs → Inked d e r (fieldsBits fs)
+drew-inked {d} {fs = fs} a = record {
   held = a .held;
   drawn = a .drawn ∙ ap (λ (s : List ℕ). s ++ fieldsBits fs) (start-none d);
   bytes = a .bytes (omega arith);
@@ -118,9 +105,9 @@ penned-inked {d} {fs = fs} a = record {
 }
 
 -- the note, the table and zero bits to the byte are the record's bytes
-module _ {d d1 d2 e : List ℕ} {p q r : Pen} (raw : Raw) (t : List ℕ) (zeros : ℕ) (a : Penned d d1 start p 240 (rawFields raw)) (b : Penned d1 d2 p q (16 + 22 * length t) (tableFields t)) (c : Drew d2 e q r zeros 0) (z : zeros ≡ (8 - q .count) % 8) (room : (256 + 22 * length t + 7) / 8 ≤ length d) where
-  noted : Penned d d2 start q (240 + (16 + 22 * length t)) (rawFields raw ++ tableFields t)
-  noted = penned-then a b
+module _ {d d1 d2 e : List ℕ} {p q r : Pen} (raw : Raw) (t : List ℕ) (zeros : ℕ) (a : Drew d d1 start p 240 (rawFields raw)) (b : Drew d1 d2 p q (16 + 22 * length t) (tableFields t)) (c : Drew d2 e q r zeros (inBits zeros 0 ∷ [])) (z : zeros ≡ (8 - q .count) % 8) (room : (256 + 22 * length t + 7) / 8 ≤ length d) where
+  noted : Drew d d2 start q (240 + (16 + 22 * length t)) (rawFields raw ++ tableFields t)
+  noted = drew-then a b
 
   zeros-are : zeros ≡ zerosBehind (length (fieldsBits (rawFields raw ++ tableFields t)))
   zeros-are = omega (arith, z, noted .moved, noted .held .0, length-record raw t)
@@ -131,7 +118,7 @@ module _ {d d1 d2 e : List ℕ} {p q r : Pen} (raw : Raw) (t : List ℕ) (zeros 
       ∙ ap (λ (s : List ℕ). fieldsBits (rawFields raw ++ tableFields t) ++ s) (one-field (inBits zeros 0) ∙ ap (λ (w : ℕ). fieldBits w 0) zeros-are)
 
   all-put : Inked d e r (fieldsBits ((rawFields raw ++ tableFields t) ++ (inBits zeros 0 ∷ [])))
-  all-put = penned-inked (penned-then noted (penned-one c))
+  all-put = drew-inked (drew-then noted c)
 
   pub record-wrote : Wrote d e 0 (rawBytes raw t) (r .place)
   unfolding rawBytes wholeBytes

@@ -5,29 +5,16 @@ use mathlib.Core.List.{List, [], _∷_, _++_}
 use lib.ListN.{length}
 use lib.IntN.{natAbs}
 use lib.Ieee.{binary64, toBits}
-use Rattle.bit_fields.specs.Bits.{fieldBits, bytesOf}
+use Rattle.bit_fields.specs.Bits.{Field, inBits, fieldBits, fieldsBits, bytesOf}
 use Rattle.calendar.specs.declared.Date.{Date}
 use Rattle.coupon_date.specs.declared.CouponDate.{CouponDate}
 use Rattle.cash_amount.specs.declared.Currency.{Currency}
 use Rattle.day_count_conv.specs.Conventions.{codeOf}
 use Rattle.bond.specs.declared.Note.{Note}
-use Rattle.packed_note.specs.declared.Terms.{Terms}
-use Rattle.packed_note.specs.declared.Letters.{Letters}
-use Rattle.packed_note.specs.declared.Raw.{Raw}
+use Rattle.packed_numbers.specs.declared.Terms.{Terms}
+use Rattle.packed_numbers.specs.declared.Letters.{Letters}
+use Rattle.packed_numbers.specs.declared.Raw.{Raw}
 use Rattle.packed_write.specs.Codes.{unitCode, ruleCode, digitsPlaces}
-
--- a number in so many bits
-pub record Field : Type 0 where
-  pub width : ℕ
-  pub number : ℕ
-
-abbrev pub inBits : ℕ → ℕ → Field
-inBits w n = record { width = w; number = n }
-
--- the bits of fields one after the other, most significant first
-unfoldable pub fieldsBits : List Field → List ℕ
-fieldsBits [] = []
-fieldsBits (f ∷ fs) = fieldBits (f .width) (f .number) ++ fieldsBits fs
 
 -- digit count 4; ten digits of 4
 abbrev pub numberFields : Raw → List Field

@@ -1,14 +1,13 @@
--- Fields put one after the other into lent bytes.
+-- What putting the fields of a note asks for. For inner functions only: no entry point promises or asks it.
 -- Assumes nothing.
 use Prim.Native.Nat.{ℕ, _+_, _*_, _^_, _≤_, _<_}
-use mathlib.Core.Path.{_≡_}
-use mathlib.Core.List.{List, [], _∷_, _++_}
-use lib.ListN.{length, take, drop}
-use Rattle.bit_fields.specs.Bits.{AreBytes}
-use Rattle.bit_fields.specs.Pens.{Held, putSoFar}
+use mathlib.Core.List.{List, [], _∷_}
+use lib.ListN.{length}
+use Rattle.bit_fields.specs.Bits.{Field}
+use Rattle.bit_fields.specs.Pens.{Held}
 use Rattle.bit_fields.specs.declared.Pen.{Pen}
-use Rattle.packed_note.specs.declared.Raw.{Raw}
-use Rattle.packed_write.specs.Fields.{Field, fieldsBits, numberFields, dateFields, couponFields, termsFields, lettersFields}
+use Rattle.packed_numbers.specs.declared.Raw.{Raw}
+use Rattle.packed_write.specs.Fields.{numberFields, dateFields, couponFields, termsFields, lettersFields}
 
 -- every number fits its bits
 abbrev pub AllFit : List Field → Type 0
@@ -30,13 +29,3 @@ pub record RawFits (r : Raw) : Type 0 where
 -- a pen that is in order, and room for w bits behind it
 abbrev pub Ready : Pen → ℕ → List ℕ → Type 0
 Ready p w d = (Held p) × (8 * p .place + p .count + w ≤ 8 * length d)
-
--- what putting fields of n bits promises: they stand behind those before, the bytes past them are as they were, and it is n bits further
-pub record Penned (d e : List ℕ) (p r : Pen) (n : ℕ) (fs : List Field) : Type 0 where
-  pub held : Held r
-  pub drawn : putSoFar e r ≡ putSoFar d p ++ fieldsBits fs
-  pub bytes : AreBytes (take (p .place) d) → AreBytes (take (r .place) e)
-  pub past : drop (r .place) e ≡ drop (r .place) d
-  pub same-length : length e ≡ length d
-  pub moved : 8 * r .place + r .count ≡ 8 * p .place + p .count + n
-  pub counted : length (fieldsBits fs) ≡ n

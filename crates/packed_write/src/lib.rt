@@ -6,12 +6,14 @@ ghost use Prim.Native.Nat.{_+_, _-_, _*_, _/_, _%_, _^_, _≤_, _<_};
 ghost use lib.Dec.{ltb};
 ghost use lib.ListN.{length};
 ghost use Rattle.paper.specs.Outcome.{pick};
+ghost use Rattle.bit_fields.specs.Bits.{inBits};
+ghost use Rattle.bit_fields.specs.Pens.{Drew};
 ghost use Rattle.text.specs.Writing.{Wrote, Written, lengthOutcome};
 ghost use Rattle.holidays.specs.Table.{isTable};
 ghost use Rattle.cash_amount.specs.Amounts.{isCurrency};
 ghost use Rattle.packed_write.specs.Codes.{unitCode, ruleCode, digitsPlaces};
-ghost use Rattle.packed_write.specs.Fields.{inBits, numberFields, dateFields, couponFields, rulesFields, termsFields, lettersFields, headFields, middleFields, tailFields, rawFields, dayFields, tableFields, termsWith, lettersWith, rawWith, rawBytes, recordBytes};
-ghost use Rattle.packed_write.specs.Pens.{AllFit, RawFits, Ready, Penned};
+ghost use Rattle.packed_write.specs.Fields.{numberFields, dateFields, couponFields, rulesFields, termsFields, lettersFields, headFields, middleFields, tailFields, rawFields, dayFields, tableFields, termsWith, lettersWith, rawWith, rawBytes, recordBytes};
+ghost use Rattle.packed_write.specs.Pens.{AllFit, RawFits, Ready};
 ghost use Rattle.packed_write.specs.Writing.{Packable, WritePromise};
 use bit_fields::Pen;
 use bond::Note;
@@ -20,9 +22,9 @@ use calendar::Date;
 use cash_amount::Currency;
 use coupon_date::CouponDate;
 use day_adjust::DayAdjust;
-use packed_note::Letters;
-use packed_note::Raw;
-use packed_note::Terms;
+use packed_numbers::Letters;
+use packed_numbers::Raw;
+use packed_numbers::Terms;
 use text::LengthAnswer;
 use time_period::TimePeriodUnit;
 
@@ -142,7 +144,7 @@ fn raw_with(note: Note) -> Raw
 
 fn put_number(pen: Pen, raw: Raw, out: &mut [u8]) -> Pen
     requires { ⌜ (Ready pen 44 (now out)) × (AllFit (numberFields raw)) ⌝ }
-    ensures { λ r. ⌜ Penned (now (out .entry)) (now (out .exit)) pen r 44 (numberFields raw) ⌝ }
+    ensures { λ r. ⌜ Drew (now (out .entry)) (now (out .exit)) pen r 44 (numberFields raw) ⌝ }
 {
     let next = bit_fields::put_field(pen, raw.count as u64, 4, out);
     bit_fields::put_field(next, raw.digits, 40, out)
@@ -150,7 +152,7 @@ fn put_number(pen: Pen, raw: Raw, out: &mut [u8]) -> Pen
 
 fn put_date(pen: Pen, t: Date, out: &mut [u8]) -> Pen
     requires { ⌜ (Ready pen 23 (now out)) × (AllFit (dateFields t)) ⌝ }
-    ensures { λ r. ⌜ Penned (now (out .entry)) (now (out .exit)) pen r 23 (dateFields t) ⌝ }
+    ensures { λ r. ⌜ Drew (now (out .entry)) (now (out .exit)) pen r 23 (dateFields t) ⌝ }
 {
     let year = bit_fields::put_field(pen, t.year as u64, 14, out);
     let month = bit_fields::put_field(year, t.month as u64, 4, out);
@@ -159,7 +161,7 @@ fn put_date(pen: Pen, t: Date, out: &mut [u8]) -> Pen
 
 fn put_coupon(pen: Pen, coupon: CouponDate, out: &mut [u8]) -> Pen
     requires { ⌜ (Ready pen 9 (now out)) × (AllFit (couponFields coupon)) ⌝ }
-    ensures { λ r. ⌜ Penned (now (out .entry)) (now (out .exit)) pen r 9 (couponFields coupon) ⌝ }
+    ensures { λ r. ⌜ Drew (now (out .entry)) (now (out .exit)) pen r 9 (couponFields coupon) ⌝ }
 {
     let day = bit_fields::put_field(pen, coupon.day as u64, 5, out);
     bit_fields::put_field(day, coupon.month as u64, 4, out)
@@ -167,7 +169,7 @@ fn put_coupon(pen: Pen, coupon: CouponDate, out: &mut [u8]) -> Pen
 
 fn put_rules(pen: Pen, terms: Terms, out: &mut [u8]) -> Pen
     requires { ⌜ (Ready pen 5 (now out)) × (AllFit (rulesFields terms)) ⌝ }
-    ensures { λ r. ⌜ Penned (now (out .entry)) (now (out .exit)) pen r 5 (rulesFields terms) ⌝ }
+    ensures { λ r. ⌜ Drew (now (out .entry)) (now (out .exit)) pen r 5 (rulesFields terms) ⌝ }
 {
     let convention = bit_fields::put_field(pen, terms.convention as u64, 3, out);
     bit_fields::put_field(convention, terms.adjustment as u64, 2, out)
@@ -175,7 +177,7 @@ fn put_rules(pen: Pen, terms: Terms, out: &mut [u8]) -> Pen
 
 fn put_terms(pen: Pen, terms: Terms, out: &mut [u8]) -> Pen
     requires { ⌜ (Ready pen 20 (now out)) × (AllFit (termsFields terms)) ⌝ }
-    ensures { λ r. ⌜ Penned (now (out .entry)) (now (out .exit)) pen r 20 (termsFields terms) ⌝ }
+    ensures { λ r. ⌜ Drew (now (out .entry)) (now (out .exit)) pen r 20 (termsFields terms) ⌝ }
 {
     let unit = bit_fields::put_field(pen, terms.unit as u64, 3, out);
     let number = bit_fields::put_field(unit, terms.number as u64, 12, out);
@@ -184,7 +186,7 @@ fn put_terms(pen: Pen, terms: Terms, out: &mut [u8]) -> Pen
 
 fn put_letters(pen: Pen, letters: Letters, out: &mut [u8]) -> Pen
     requires { ⌜ (Ready pen 15 (now out)) × (AllFit (lettersFields letters)) ⌝ }
-    ensures { λ r. ⌜ Penned (now (out .entry)) (now (out .exit)) pen r 15 (lettersFields letters) ⌝ }
+    ensures { λ r. ⌜ Drew (now (out .entry)) (now (out .exit)) pen r 15 (lettersFields letters) ⌝ }
 {
     let first = bit_fields::put_field(pen, letters.first as u64, 5, out);
     let second = bit_fields::put_field(first, letters.second as u64, 5, out);
@@ -194,7 +196,7 @@ fn put_letters(pen: Pen, letters: Letters, out: &mut [u8]) -> Pen
 // A rate is wider than one field may be.
 fn put_rate(pen: Pen, rate: u64, out: &mut [u8]) -> Pen
     requires { ⌜ Ready pen 64 (now out) ⌝ }
-    ensures { λ r. ⌜ Penned (now (out .entry)) (now (out .exit)) pen r 64 (inBits 64 rate ∷ []) ⌝ }
+    ensures { λ r. ⌜ Drew (now (out .entry)) (now (out .exit)) pen r 64 (inBits 64 rate ∷ []) ⌝ }
 {
     let high = bit_fields::put_field(pen, rate / 4294967296, 32, out);
     bit_fields::put_field(high, rate % 4294967296, 32, out)
@@ -202,7 +204,7 @@ fn put_rate(pen: Pen, rate: u64, out: &mut [u8]) -> Pen
 
 fn put_head(pen: Pen, raw: Raw, out: &mut [u8]) -> Pen
     requires { ⌜ (Ready pen 90 (now out)) × (RawFits raw) ⌝ }
-    ensures { λ r. ⌜ Penned (now (out .entry)) (now (out .exit)) pen r 90 (headFields raw) ⌝ }
+    ensures { λ r. ⌜ Drew (now (out .entry)) (now (out .exit)) pen r 90 (headFields raw) ⌝ }
 {
     let number = put_number(pen, raw, out);
     let issue = put_date(number, raw.issue, out);
@@ -211,7 +213,7 @@ fn put_head(pen: Pen, raw: Raw, out: &mut [u8]) -> Pen
 
 fn put_middle(pen: Pen, raw: Raw, out: &mut [u8]) -> Pen
     requires { ⌜ (Ready pen 61 (now out)) × (RawFits raw) ⌝ }
-    ensures { λ r. ⌜ Penned (now (out .entry)) (now (out .exit)) pen r 61 (middleFields raw) ⌝ }
+    ensures { λ r. ⌜ Drew (now (out .entry)) (now (out .exit)) pen r 61 (middleFields raw) ⌝ }
 {
     let coupon = put_coupon(pen, raw.coupon, out);
     let terms = put_terms(coupon, raw.terms, out);
@@ -220,7 +222,7 @@ fn put_middle(pen: Pen, raw: Raw, out: &mut [u8]) -> Pen
 
 fn put_tail(pen: Pen, raw: Raw, out: &mut [u8]) -> Pen
     requires { ⌜ (Ready pen 89 (now out)) × (RawFits raw) ⌝ }
-    ensures { λ r. ⌜ Penned (now (out .entry)) (now (out .exit)) pen r 89 (tailFields raw) ⌝ }
+    ensures { λ r. ⌜ Drew (now (out .entry)) (now (out .exit)) pen r 89 (tailFields raw) ⌝ }
 {
     let rate = put_rate(pen, raw.rate, out);
     let letters = put_letters(rate, raw.letters, out);
@@ -230,7 +232,7 @@ fn put_tail(pen: Pen, raw: Raw, out: &mut [u8]) -> Pen
 // 30 bytes in all.
 fn put_raw(pen: Pen, raw: Raw, out: &mut [u8]) -> Pen
     requires { ⌜ (Ready pen 240 (now out)) × (RawFits raw) ⌝ }
-    ensures { λ r. ⌜ Penned (now (out .entry)) (now (out .exit)) pen r 240 (rawFields raw) ⌝ }
+    ensures { λ r. ⌜ Drew (now (out .entry)) (now (out .exit)) pen r 240 (rawFields raw) ⌝ }
 {
     let head = put_head(pen, raw, out);
     let middle = put_middle(head, raw, out);
@@ -239,7 +241,7 @@ fn put_raw(pen: Pen, raw: Raw, out: &mut [u8]) -> Pen
 
 fn put_days(pen: Pen, table: &[u32], out: &mut [u8]) -> Pen
     requires { ⌜ (Ready pen (22 * length (now table)) (now out)) × (isTable (now table) ≡ true) ⌝ }
-    ensures { λ r. ⌜ Penned (now (out .entry)) (now (out .exit)) pen r (22 * length (now (table .entry))) (dayFields (now (table .entry))) ⌝ }
+    ensures { λ r. ⌜ Drew (now (out .entry)) (now (out .exit)) pen r (22 * length (now (table .entry))) (dayFields (now (table .entry))) ⌝ }
 {
     let mut at = pen;
     let mut i: usize = 0;
@@ -252,7 +254,7 @@ fn put_days(pen: Pen, table: &[u32], out: &mut [u8]) -> Pen
 
 fn put_table(pen: Pen, table: &[u32], out: &mut [u8]) -> Pen
     requires { ⌜ (Ready pen (16 + 22 * length (now table)) (now out)) × (isTable (now table) ≡ true) ⌝ }
-    ensures { λ r. ⌜ Penned (now (out .entry)) (now (out .exit)) pen r (16 + 22 * length (now (table .entry))) (tableFields (now (table .entry))) ⌝ }
+    ensures { λ r. ⌜ Drew (now (out .entry)) (now (out .exit)) pen r (16 + 22 * length (now (table .entry))) (tableFields (now (table .entry))) ⌝ }
 {
     let count = bit_fields::put_field(pen, table.len() as u64, 16, out);
     put_days(count, table, out)

@@ -1,10 +1,9 @@
-// Discounting at a flat rate with simple compounding: the factor, one cash flow, and a stream of them.
+// Discounting at a flat rate with simple compounding: the factor and one cash flow.
 ghost use mathlib.Core.Path.{_≡_};
 ghost use lib.Ieee.Scale.{finite};
 ghost use Rattle.day_count_conv.specs.Conventions.{fractionOutcome};
 ghost use Rattle.cash_amount.specs.Amounts.{amountOutcome};
-ghost use Rattle.rates.specs.Rates.{isRate, factorOf, fractionTo, isOneCurrency, flowValue, flowAdded, FactorPromise, FlowPromise, StreamPromise};
-ghost use Rattle.rates.specs.Steps.{streamStart, flowOnto};
+ghost use Rattle.rates.specs.Rates.{isRate, factorOf, fractionTo, isOneCurrency, flowValue, flowAdded, FactorPromise, FlowPromise};
 use calendar::Date;
 use cash_amount::AmountAnswer;
 use cash_amount::Currency;
@@ -122,38 +121,4 @@ pub fn flow_added(rate: FlatRate, flow: CashFlow, today: Date, sum: f64) -> Amou
         AmountAnswer::Amount(x) => AmountAnswer::Amount(sum + x),
         AmountAnswer::Refused(n) => AmountAnswer::Refused(n),
     }
-}
-
-// What a stream begins with: 0, or 15 for the rate.
-fn stream_start(rate: FlatRate) -> AmountAnswer
-    ensures { λ r. ⌜ amountOutcome r ≡ streamStart rate ⌝ }
-{
-    if !is_rate(rate.rate) {
-        return AmountAnswer::Refused(paper::NUMBER_OUT_OF_LIMITS);
-    }
-    AmountAnswer::Amount(0.0)
-}
-
-// One flow more, unless one before it was refused.
-fn flow_onto(so_far: AmountAnswer, rate: FlatRate, flow: CashFlow, today: Date) -> AmountAnswer
-    ensures { λ r. ⌜ amountOutcome r ≡ flowOnto rate today (amountOutcome «so_far») flow ⌝ }
-{
-    match so_far {
-        AmountAnswer::Amount(sum) => flow_added(rate, flow, today, sum),
-        AmountAnswer::Refused(n) => AmountAnswer::Refused(n),
-    }
-}
-
-// A stream of records.
-pub fn discount_cash_flow_stream(rate: FlatRate, flows: &[CashFlow], today: Date) -> AmountAnswer
-    ensures { λ r. ⌜ StreamPromise rate today (now (flows .entry)) r ⌝ }
-{
-    let mut so_far = stream_start(rate);
-    let mut i: usize = 0;
-    while i < flows.len() {
-        let flow = flows[i];
-        so_far = flow_onto(so_far, rate, flow, today);
-        i += 1;
-    }
-    so_far
 }

@@ -1,6 +1,5 @@
 pub mod Signs
 pub mod Frequencies
-pub mod Judging
 pub mod Steps
 pub mod OneOutcome
 pub mod Examples

@@ -2,17 +2,14 @@
 -- Assumes nothing.
 use Prim.Native.Nat.{ℕ, _<_}
 use mathlib.Core.Path.{_≡_, refl, sym, _∙_, ap}
-use mathlib.Core.Bool.{Bool, true, false, not}
+use mathlib.Core.Bool.{not}
 use native.Mathlib.Omega.{arith}
 use lib.IntN.{ℤ}
-use Rattle.paper.specs.Outcome.{Outcome, given, refused, Numbered, unless}
-use Rattle.paper.proofs.Outcomes.{given-injective, refused-injective, given-not-refused, unless-numbered, then-numbered}
-use Rattle.calendar.specs.Dates.{isDate}
+use Rattle.paper.specs.Outcome.{Outcome, given, refused, Numbered}
+use Rattle.paper.proofs.Outcomes.{given-injective, refused-injective, given-not-refused, unless-numbered}
 use Rattle.calendar.specs.declared.Date.{Date}
-use Rattle.calendar.specs.declared.DateAnswer.{DateAnswer}
-use Rattle.calendar.proofs.OneOutcome.{same-date-answer}
 use Rattle.time_period.specs.Periods.{periodOutcome, frequencyOutcome, frequencyOf, FrequencyPromise}
-use Rattle.time_period.specs.Steps.{Holidays, absent, businessStep, unitStep, stepped, isLeast, inverseOf, served, accepted, judgedStep, addTo, subFrom, InversePromise, AddPromise, SubPromise}
+use Rattle.time_period.specs.Steps.{absent, businessStep, unitStep, isLeast, inverseOf, InversePromise}
 use Rattle.time_period.specs.declared.TimePeriodUnit.{TimePeriodUnit}
 use Rattle.time_period.specs.declared.TimePeriodUnit.the-variants.{Daily, BusinessDaily, Weekly, Monthly, Annual}
 use Rattle.time_period.specs.declared.TimePeriod.{TimePeriod}
@@ -42,16 +39,8 @@ module _ (p : TimePeriod) where
   pub one-inverse : (r s : PeriodAnswer) → InversePromise p r → InversePromise p s → r ≡ s
   one-inverse r s v w = same-period-answer r s (v ∙ sym w)
 
-  -- with a table and without
-  module _ (h : Holidays) (t : Date) (r s : DateAnswer) where
-    pub one-add : AddPromise p h t r → AddPromise p h t s → r ≡ s
-    one-add v w = same-date-answer r s (v ∙ sym w)
-
-    pub one-sub : SubPromise p h t r → SubPromise p h t s → r ≡ s
-    one-sub v w = same-date-answer r s (v ∙ sym w)
-
 -- every refusal has its number; what is refused with one number only
-numbered-by : {A : Type 0} (n : ℕ) → 0 < n → (o : Outcome A) → ((m : ℕ) → o ≡ refused m → m ≡ n) → Numbered o
+pub numbered-by : {A : Type 0} (n : ℕ) → 0 < n → (o : Outcome A) → ((m : ℕ) → o ≡ refused m → m ≡ n) → Numbered o
 numbered-by n h (given a) k = omega arith
 numbered-by n h (refused m) k = let e = k m refl in omega arith
 
@@ -62,13 +51,6 @@ pub inverse-numbered : (p : TimePeriod) → Numbered (inverseOf p)
 unfolding inverseOf
 inverse-numbered p = unless-numbered (not (isLeast (p .num))) 4 _ (omega arith) (omega arith)
 
-judged-numbered : (p : TimePeriod) (h : Holidays) (t : Date) → Numbered (judgedStep p h t)
-judged-numbered p h t = by (served (p .unit) h) refl
-  where
-    by : (b : Bool) → served (p .unit) h ≡ b → Numbered (unless b 12 (unless (accepted h) 13 (stepped p h t)))
-    by true e = unless-numbered (accepted h) 13 _ (omega arith) (numbered-by 1 (omega arith) (stepped p h t) (step-refuses p h t e))
-    by false e = omega arith
-
 -- a step without a table: 12 for B, 1 for the others
 pub step-numbered : (u : TimePeriodUnit) (n : ℤ) (t : Date) → Numbered (unitStep u n absent t)
 unfolding businessStep
@@ -77,13 +59,3 @@ step-numbered Daily n t = numbered-by 1 (omega arith) _ (step-refuses (record { 
 step-numbered Weekly n t = numbered-by 1 (omega arith) _ (step-refuses (record { num = n; unit = Weekly }) absent t refl)
 step-numbered Monthly n t = numbered-by 1 (omega arith) _ (step-refuses (record { num = n; unit = Monthly }) absent t refl)
 step-numbered Annual n t = numbered-by 1 (omega arith) _ (step-refuses (record { num = n; unit = Annual }) absent t refl)
-
-pub add-numbered : (p : TimePeriod) (h : Holidays) (t : Date) → Numbered (addTo p h t)
-unfolding addTo
-add-numbered p h t = unless-numbered (isDate t) 1 _ (omega arith) (judged-numbered p h t)
-
-pub sub-numbered : (p : TimePeriod) (h : Holidays) (t : Date) → Numbered (subFrom p h t)
-unfolding subFrom
-sub-numbered p h t =
-    unless-numbered (isDate t) 1 _ (omega arith)
-    (then-numbered (inverseOf p) (λ q. judgedStep q h t) (inverse-numbered p) (λ q. judged-numbered q h t))

@@ -1,12 +1,12 @@
 -- Where a step leads: to a date of the calendar, later for a number above zero and earlier for one below; and what each unit keeps.
 -- Assumes nothing.
 use Prim.Native.Nat.{ℕ, suc, _≤_, _<_}
-use mathlib.Core.Path.{_≡_, refl, sym, _∙_, ap, subst}
+use mathlib.Core.Path.{_≡_, sym, _∙_, ap, subst}
 use mathlib.Core.Bool.{Bool, true, false}
 use mathlib.Core.List.{List}
 use native.Mathlib.Omega.{arith}
 use lib.Dec.{leb}
-use lib.IntN.{ℤ, pos, negsuc, negℤ, natAbs, _+ℤ_, _*ℤ_}
+use lib.IntN.{ℤ, pos, negsuc, natAbs, _+ℤ_, _*ℤ_}
 use lib.Signed.{ltZ}
 use Rattle.paper.specs.Outcome.{Outcome, given, refused, unless, andThen}
 use Rattle.paper.proofs.Outcomes.{given-injective, given-not-refused, refused-injective, unless-given, then-given}
@@ -18,14 +18,14 @@ use Rattle.calendar.proofs.Dates.{IsDate, date-yes, day-yes, day-is, number-fro
 use Rattle.calendar.proofs.Order.{month-order}
 use Rattle.date_step.specs.Steps.{landing, monthsLater, addMonths, existingDate, yearsLater, addYears, daysLater, addDays}
 use Rattle.holidays.specs.Business.{on, isBusiness}
-use Rattle.time_period.specs.Steps.{Holidays, absent, table, businessDay, businessStep, unitStep, stepped, isLeast, inverseOf, served, accepted, addTo, subFrom}
+use Rattle.time_period.specs.Steps.{Holidays, absent, table, businessDay, businessStep, unitStep, stepped, served}
 use Rattle.time_period.specs.declared.TimePeriodUnit.{TimePeriodUnit}
 use Rattle.time_period.specs.declared.TimePeriodUnit.the-variants.{Daily, BusinessDaily, Weekly, Monthly, Annual}
 use Rattle.time_period.specs.declared.TimePeriod.{TimePeriod}
 use Rattle.date_step.proofs.Steps.{MonthsOn, months-on, YearsOn, years-on, DaysOn, days-on}
 use Rattle.holidays.proofs.Steps.{no-step}
 use Rattle.holidays.proofs.Days.{later-gives, earlier-gives, later-refuses, earlier-refuses}
-use Rattle.time_period.proofs.Signs.{seven-on, seven-back, negative-back, above, below, moved-on, moved-back}
+use Rattle.time_period.proofs.Signs.{seven-on, seven-back, above, below, moved-on, moved-back}
 
 -- ---- what each unit keeps
 
@@ -234,52 +234,3 @@ unit-refuses Annual n h t s =
 -- a step that is refused at all is refused with 1, but for B without a table
 pub step-refuses : (p : TimePeriod) (h : Holidays) (t : Date) → served (p .unit) h ≡ true → OnlyOne (stepped p h t)
 step-refuses p h t s = unit-refuses (p .unit) (p .num) h t s
-
--- ---- added and subtracted
-
--- what is given passed every check
-pub record Judged (p : TimePeriod) (h : Holidays) (t u : Date) : Type 0 where
-  pub from : isDate t ≡ true
-  pub serves : served (p .unit) h ≡ true
-  pub taken : accepted h ≡ true
-  pub step : stepped p h t ≡ given u
-
-pub add-judged : (p : TimePeriod) (h : Holidays) (t u : Date) → addTo p h t ≡ given u → Judged p h t u
-unfolding addTo
-add-judged p h t u e =
-    let a = unless-given (isDate t) 1 _ u e in
-    let b = unless-given (served (p .unit) h) 12 _ u (a .1) in
-    let c = unless-given (accepted h) 13 _ u (b .1) in
-    record { from = a .0; serves = b .0; taken = c .0; step = c .1 }
-
--- the period with its number negated
-abbrev pub negated : TimePeriod → TimePeriod
-negated p = record { num = negℤ (p .num); unit = p .unit }
-
--- subtracting is adding the negated number, where there is one, and else 4, after the date's 1
-pub record Subtracted (p : TimePeriod) (h : Holidays) (t : Date) : Type 0 where
-  pub adds : isLeast (p .num) ≡ false → subFrom p h t ≡ addTo (negated p) h t
-  pub least : isLeast (p .num) ≡ true → isDate t ≡ true → subFrom p h t ≡ refused 4
-  pub undated : isDate t ≡ false → subFrom p h t ≡ refused 1
-
-pub subtracted : (p : TimePeriod) (h : Holidays) (t : Date) → Subtracted p h t
-unfolding subFrom addTo inverseOf
-subtracted p h t =
-    record {
-      adds = λ e. rw e;
-      least = λ e d. rw (e, d);
-      undated = λ d. rw d;
-    }
-
--- a period added leads later where its number is above zero, and subtracted earlier
-pub add-leads : (p : TimePeriod) (h : Holidays) (t u : Date) → addTo p h t ≡ given u → Stepped p h t u
-add-leads p h t u e = let j = add-judged p h t u e in step-leads p h t u (j .from) (j .step)
-
-positive-not-least : (n : ℤ) → ltZ (pos 0) n ≡ true → isLeast n ≡ false
-positive-not-least (pos k) e = refl
-positive-not-least (negsuc k) e = absurd (let w : _≡_ {A = ℕ} 0 1 = cc in omega arith)
-
-pub sub-leads : (p : TimePeriod) (h : Holidays) (t u : Date) → ltZ (pos 0) (p .num) ≡ true → subFrom p h t ≡ given u → EarlierDate t u
-sub-leads p h t u s e =
-    let k = add-leads (negated p) h t u (sym (subtracted p h t .adds (positive-not-least (p .num) s)) ∙ e) in
-    record { dated = k .dated; earlier = k .earlier (negative-back (p .num) s) }

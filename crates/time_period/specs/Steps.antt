@@ -7,13 +7,11 @@ use mathlib.Core.List.{List}
 use lib.Dec.{eqb}
 use lib.IntN.{ℤ, pos, negsuc, negℤ, _*ℤ_}
 use Rattle.paper.specs.Outcome.{Outcome, given, refused, unless, andThen}
-use Rattle.calendar.specs.Dates.{isDate, dayNumber}
-use Rattle.calendar.specs.Answers.{dateOutcome, dateOf}
+use Rattle.calendar.specs.Dates.{dayNumber}
+use Rattle.calendar.specs.Answers.{dateOf}
 use Rattle.calendar.specs.declared.Day.{Day}
 use Rattle.calendar.specs.declared.Date.{Date}
-use Rattle.calendar.specs.declared.DateAnswer.{DateAnswer}
 use Rattle.date_step.specs.Steps.{daysLater, monthsLater, yearsLater}
-use Rattle.holidays.specs.Table.{isTable}
 use Rattle.holidays.specs.Business.{laterFrom, earlierFrom}
 use Rattle.time_period.specs.declared.TimePeriodUnit.{TimePeriodUnit}
 use Rattle.time_period.specs.declared.TimePeriodUnit.the-variants.{Daily, BusinessDaily, Weekly, Monthly, Annual}
@@ -67,27 +65,6 @@ abbrev pub served : TimePeriodUnit → Holidays → Bool
 served u absent = not (needsTable u)
 served u (table h) = true
 
--- 13: for a table given, whatever the unit
-abbrev pub accepted : Holidays → Bool
-accepted absent = true
-accepted (table h) = isTable h
-
--- order for a step: 1 for the date, 4, 12, 13, then 1 for the result
-abbrev pub judgedStep : TimePeriod → Holidays → Date → Outcome Date
-judgedStep p h t = unless (served (p .unit) h) 12 (unless (accepted h) 13 (stepped p h t))
-
-unfoldable pub addTo : TimePeriod → Holidays → Date → Outcome Date
-addTo p h t = unless (isDate t) 1 (judgedStep p h t)
-
-unfoldable pub subFrom : TimePeriod → Holidays → Date → Outcome Date
-subFrom p h t = unless (isDate t) 1 (andThen (inverseOf p) (λ q. judgedStep q h t))
-
--- what the entry points promise of their result r
+-- what the entry point promises of its result r
 abbrev pub InversePromise : TimePeriod → PeriodAnswer → Type 0
 InversePromise p r = periodOutcome r ≡ inverseOf p
-
-abbrev pub AddPromise : TimePeriod → Holidays → Date → DateAnswer → Type 0
-AddPromise p h t r = dateOutcome r ≡ addTo p h t
-
-abbrev pub SubPromise : TimePeriod → Holidays → Date → DateAnswer → Type 0
-SubPromise p h t r = dateOutcome r ≡ subFrom p h t

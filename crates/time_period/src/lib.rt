@@ -1,4 +1,4 @@
-// Periods, as finql's time_period.rs: their frequency, and the dates that they lead to.
+// Periods, as finql's time_period.rs: their frequency, their inverse, and a step from a date.
 ghost use mathlib.Core.Path.{_≡_};
 ghost use mathlib.Core.Bool.{true};
 ghost use Rattle.paper.specs.Outcome.{andThen};
@@ -6,7 +6,7 @@ ghost use Rattle.calendar.specs.Dates.{isDate};
 ghost use Rattle.calendar.specs.Answers.{dayOutcome, dateOutcome, dateOf};
 ghost use Rattle.holidays.specs.Table.{ascending};
 ghost use Rattle.time_period.specs.Periods.{frequencyOutcome, monthsFrequency, yearsFrequency, FrequencyPromise};
-ghost use Rattle.time_period.specs.Steps.{absent, table, businessStep, stepped, InversePromise, AddPromise, SubPromise};
+ghost use Rattle.time_period.specs.Steps.{absent, table, businessStep, stepped, InversePromise};
 use calendar::Date;
 use calendar::DateAnswer;
 use calendar::DayAnswer;
@@ -134,58 +134,4 @@ pub fn step_with(p: TimePeriod, t: Date, holidays: &[u32]) -> DateAnswer
         return step_business(p.num, t, holidays);
     }
     step(p, t)
-}
-
-// The date a period on, without a holiday table.
-pub fn add_to(p: TimePeriod, t: Date) -> DateAnswer
-    ensures { λ r. ⌜ AddPromise p absent t r ⌝ }
-{
-    if !calendar::is_date(t) {
-        return DateAnswer::Refused(paper::INVALID_DATE);
-    }
-    step(p, t)
-}
-
-// The date a period back, without a holiday table.
-pub fn sub_from(p: TimePeriod, t: Date) -> DateAnswer
-    ensures { λ r. ⌜ SubPromise p absent t r ⌝ }
-{
-    if !calendar::is_date(t) {
-        return DateAnswer::Refused(paper::INVALID_DATE);
-    }
-    match inverse(p) {
-        PeriodAnswer::Period(q) => step(q, t),
-        PeriodAnswer::Refused(n) => DateAnswer::Refused(n),
-    }
-}
-
-// The date a period on; a table that is given is judged, whatever the unit.
-pub fn add_to_with(p: TimePeriod, t: Date, holidays: &[u32]) -> DateAnswer
-    ensures { λ r. ⌜ AddPromise p (table (now (holidays .entry))) t r ⌝ }
-{
-    if !calendar::is_date(t) {
-        return DateAnswer::Refused(paper::INVALID_DATE);
-    }
-    if !holidays::is_table(holidays) {
-        return DateAnswer::Refused(paper::BAD_HOLIDAY_TABLE);
-    }
-    step_with(p, t, holidays)
-}
-
-// The date a period back; a table that is given is judged, whatever the unit.
-pub fn sub_from_with(p: TimePeriod, t: Date, holidays: &[u32]) -> DateAnswer
-    ensures { λ r. ⌜ SubPromise p (table (now (holidays .entry))) t r ⌝ }
-{
-    if !calendar::is_date(t) {
-        return DateAnswer::Refused(paper::INVALID_DATE);
-    }
-    match inverse(p) {
-        PeriodAnswer::Period(q) => {
-            if !holidays::is_table(holidays) {
-                return DateAnswer::Refused(paper::BAD_HOLIDAY_TABLE);
-            }
-            step_with(q, t, holidays)
-        }
-        PeriodAnswer::Refused(n) => DateAnswer::Refused(n),
-    }
 }

@@ -4,7 +4,8 @@ use mathlib.Core.Path.{_≡_, sym, _∙_}
 use mathlib.Core.Bool.{true}
 use borrow.Author.Needs.{needs}
 use borrow.Author.Tests.{not-true, not-false}
-use Rattle.bond.specs.Notes.{isNoteNumber, isRate, noteChecks}
+use Rattle.note_limits.specs.Limits.{isNoteNumber, isRate}
+use Rattle.bond.specs.Notes.{noteChecks}
 use Rattle.bond.proofs.check_note_with.Statement.{statement}
 use Rattle.bond.proofs.check_note_with.Tie as tie
 

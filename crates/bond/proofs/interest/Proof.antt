@@ -1,6 +1,6 @@
 -- `bond::interest` meets its contract: the literal 100.0 is the whole number 100.
 -- Assumes nothing.
-use Rattle.bond.proofs.Limits.{hundred-whole}
+use Rattle.note_limits.proofs.Limits.{hundred-whole}
 use Rattle.bond.proofs.interest.Statement.{statement}
 use Rattle.bond.proofs.interest.Tie as tie
 

@@ -6,7 +6,8 @@ use borrow.Author.Needs.{needs}
 use Rattle.text.specs.Writing.{lengthOutcome}
 use Rattle.text.proofs.Writers.{wrote-is}
 use Rattle.cash_flow_text.specs.Texts.{flowShown}
-use Rattle.cash_flow_text.proofs.Answers.{writes-all, writes-short, writes-none, takes-given, takes-refused, flow-was}
+use Rattle.date_text.proofs.Dates.{writes-all, writes-short, writes-none}
+use Rattle.cash_flow_text.proofs.Answers.{takes-given, takes-refused, flow-was}
 use Rattle.cash_flow_text.proofs.write_cash_flow.Statement.{statement}
 use Rattle.cash_flow_text.proofs.write_cash_flow.Tie as tie
 

@@ -8,21 +8,21 @@ use borrow.Author.Needs.{needs}
 use denote.Ref.{now}
 use lib.ListN.{length, take}
 use Rattle.packed_write.specs.Fields.{dayFields}
-use Rattle.packed_write.specs.Pens.{Penned}
-use Rattle.packed_write.proofs.Pens.{penned-none, penned-day, all-days}
+use Rattle.bit_fields.specs.Pens.{Drew}
+use Rattle.packed_write.proofs.Pens.{drew-none, drew-day, all-days}
 use Rattle.packed_write.proofs.Accepted.{day-fits}
 use Rattle.packed_write.proofs.put_days.Statement.{statement}
 use Rattle.packed_write.proofs.put_days.Tie as tie
 
 abbrev Inv-loop : tie.InvT-loop
-Inv-loop table out₀ at₀ i₀ out at i = (i ≤ length table) × (Penned out₀ out at₀ at (22 * i) (dayFields (take i table)))
+Inv-loop table out₀ at₀ i₀ out at i = (i ≤ length table) × (Drew out₀ out at₀ at (22 * i) (dayFields (take i table)))
 
 abbrev μ-loop : tie.MeasureT-loop
 μ-loop table out₀ at₀ i₀ out at i = length table - i
 
 loop-holds : tie.Need-loop-holds Inv-loop μ-loop
 unfolding dayFields
-loop-holds c = (omega arith, penned-none _ _ (c .before .before .pre .0 .0))
+loop-holds c = (omega arith, drew-none _ _ (c .before .before .pre .0 .0))
 
 mul-put-field : tie.Need-mul-put-field Inv-loop μ-loop
 mul-put-field c = search needs
@@ -51,7 +51,7 @@ loop-again : tie.Need-loop-again Inv-loop μ-loop
 loop-again c =
     let l = c .before .before .before .before .before .before .loop in
     let s = c .before .before .before .before .before .before .before .before .before in
-    (omega arith, penned-day (now (s .args .table)) (l .i) _ (omega arith) refl (l .inv .1) (c .before .before .put-field .ensures))
+    (omega arith, drew-day (now (s .args .table)) (l .i) _ (omega arith) refl (l .inv .1) (c .before .before .put-field .ensures))
 
 same-length : tie.Need-same-length Inv-loop μ-loop
 same-length c = c .before .loop .inv .1 .same-length

@@ -1,6 +1,6 @@
 -- `packed_write::put_head` meets its contract: its parts in turn.
 -- Assumes nothing.
-use Rattle.packed_write.proofs.Pens.{penned-then}
+use Rattle.packed_write.proofs.Pens.{drew-then}
 use borrow.Author.Needs.{needs}
 use Rattle.packed_write.proofs.put_head.Statement.{statement}
 use Rattle.packed_write.proofs.put_head.Tie as tie
@@ -18,7 +18,7 @@ same-length : tie.Need-same-length
 same-length c = search needs
 
 returns : tie.Need-returns
-returns c = penned-then (c .before .before .before .before .before .before .before .before .before .before .put-number .ensures) (penned-then (c .before .before .before .before .before .before .put-date .ensures) (c .before .before .put-date2 .ensures))
+returns c = drew-then (c .before .before .before .before .before .before .before .before .before .before .put-number .ensures) (drew-then (c .before .before .before .before .before .before .put-date .ensures) (c .before .before .put-date2 .ensures))
 
 pub put-head-spec : {M : Type 1} → statement M
 put-head-spec =

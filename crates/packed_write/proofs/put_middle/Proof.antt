@@ -1,6 +1,6 @@
 -- `packed_write::put_middle` meets its contract: its parts in turn.
 -- Assumes nothing.
-use Rattle.packed_write.proofs.Pens.{penned-one, penned-then}
+use Rattle.packed_write.proofs.Pens.{drew-then}
 use borrow.Author.Needs.{needs}
 use Rattle.packed_write.proofs.put_middle.Statement.{statement}
 use Rattle.packed_write.proofs.put_middle.Tie as tie
@@ -21,7 +21,7 @@ same-length : tie.Need-same-length
 same-length c = search needs
 
 returns : tie.Need-returns
-returns c = penned-then (c .before .before .before .before .before .before .before .before .before .before .before .put-coupon .ensures) (penned-then (c .before .before .before .before .before .before .before .put-terms .ensures) (penned-one (c .before .before .put-field .ensures)))
+returns c = drew-then (c .before .before .before .before .before .before .before .before .before .before .before .put-coupon .ensures) (drew-then (c .before .before .before .before .before .before .before .put-terms .ensures) ((c .before .before .put-field .ensures)))
 
 pub put-middle-spec : {M : Type 1} → statement M
 put-middle-spec =

@@ -1,6 +1,6 @@
 -- `packed_write::put_rate` meets its contract: two halves are the whole.
 -- Assumes nothing.
-use Rattle.packed_write.proofs.Pens.{penned-halves}
+use Rattle.packed_write.proofs.Pens.{drew-halves}
 use borrow.Author.Needs.{needs}
 use Rattle.packed_write.proofs.put_rate.Statement.{statement}
 use Rattle.packed_write.proofs.put_rate.Tie as tie
@@ -15,7 +15,7 @@ same-length : tie.Need-same-length
 same-length c = search needs
 
 returns : tie.Need-returns
-returns c = penned-halves (c .before .before .before .before .before .before .put-field .ensures) (c .before .before .put-field2 .ensures)
+returns c = drew-halves (c .before .before .before .before .before .before .put-field .ensures) (c .before .before .put-field2 .ensures)
 
 pub put-rate-spec : {M : Type 1} → statement M
 put-rate-spec = tie.close (tie.spec put-field-requires put-field-requires-2 same-length returns)

@@ -1,6 +1,6 @@
 -- `packed_write::put_raw` meets its contract: its parts in turn.
 -- Assumes nothing.
-use Rattle.packed_write.proofs.Pens.{penned-then}
+use Rattle.packed_write.proofs.Pens.{drew-then}
 use borrow.Author.Needs.{needs}
 use Rattle.packed_write.proofs.put_raw.Statement.{statement}
 use Rattle.packed_write.proofs.put_raw.Tie as tie
@@ -18,7 +18,7 @@ same-length : tie.Need-same-length
 same-length c = search needs
 
 returns : tie.Need-returns
-returns c = penned-then (c .before .before .before .before .before .before .before .before .before .before .put-head .ensures) (penned-then (c .before .before .before .before .before .before .put-middle .ensures) (c .before .before .put-tail .ensures))
+returns c = drew-then (c .before .before .before .before .before .before .before .before .before .before .put-head .ensures) (drew-then (c .before .before .before .before .before .before .put-middle .ensures) (c .before .before .put-tail .ensures))
 
 pub put-raw-spec : {M : Type 1} → statement M
 put-raw-spec =

@@ -3,7 +3,7 @@
 use native.Mathlib.Omega.{arith}
 use borrow.Author.Needs.{needs}
 use denote.Ref.{now}
-use Rattle.packed_write.proofs.Pens.{penned-one, penned-then}
+use Rattle.packed_write.proofs.Pens.{drew-then}
 use Rattle.packed_write.proofs.Accepted.{table-short}
 use Rattle.packed_write.proofs.put_table.Statement.{statement}
 use Rattle.packed_write.proofs.put_table.Tie as tie
@@ -20,7 +20,7 @@ same-length : tie.Need-same-length
 same-length c = search needs
 
 returns : tie.Need-returns
-returns c = penned-then (penned-one (c .before .before .before .before .before .before .put-field .ensures)) (c .before .before .put-days .ensures)
+returns c = drew-then ((c .before .before .before .before .before .before .put-field .ensures)) (c .before .before .put-days .ensures)
 
 pub put-table-spec : {M : Type 1} → statement M
 put-table-spec = tie.close (tie.spec put-field-requires put-days-requires same-length returns)

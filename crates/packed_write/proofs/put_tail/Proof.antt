@@ -1,6 +1,6 @@
 -- `packed_write::put_tail` meets its contract: its parts in turn.
 -- Assumes nothing.
-use Rattle.packed_write.proofs.Pens.{penned-one, penned-then}
+use Rattle.packed_write.proofs.Pens.{drew-then}
 use borrow.Author.Needs.{needs}
 use Rattle.packed_write.proofs.put_tail.Statement.{statement}
 use Rattle.packed_write.proofs.put_tail.Tie as tie
@@ -21,7 +21,7 @@ same-length : tie.Need-same-length
 same-length c = search needs
 
 returns : tie.Need-returns
-returns c = penned-then (c .before .before .before .before .before .before .before .before .before .before .before .put-rate .ensures) (penned-then (c .before .before .before .before .before .before .before .put-letters .ensures) (penned-one (c .before .before .put-field .ensures)))
+returns c = drew-then (c .before .before .before .before .before .before .before .before .before .before .before .put-rate .ensures) (drew-then (c .before .before .before .before .before .before .before .put-letters .ensures) ((c .before .before .put-field .ensures)))
 
 pub put-tail-spec : {M : Type 1} → statement M
 put-tail-spec =

@@ -5,7 +5,7 @@ use native.Mathlib.Omega.{arith}
 use borrow.Author.Needs.{needs}
 use denote.Ref.{now}
 use Rattle.text.proofs.Writers.{written-fits, written-refused, wrote-is}
-use Rattle.packed_note.specs.declared.Raw.{Raw}
+use Rattle.packed_numbers.specs.declared.Raw.{Raw}
 use Rattle.packed_write.specs.Fields.{rawWith, rawBytes}
 use Rattle.packed_write.proofs.Fields.{bytes-length}
 use Rattle.packed_write.proofs.Accepted.{table-short}

@@ -54,9 +54,9 @@ use Rattle.cash_flow.proofs.CashFlow.Laws as T′
 use Rattle.rates.specs.declared.FlatRate.{FlatRate}
 use Rattle.rates.proofs.FlatRate as R
 use Rattle.rates.proofs.FlatRate.Laws as R′
-use Rattle.rates.proofs.discount_cash_flow_stream as callee
-use Rattle.rates.proofs.discount_cash_flow_stream.Symbol as callee-def
-use Rattle.rates.proofs.discount_cash_flow_stream.Met as callee-thm
+use Rattle.rate_streams.proofs.discount_cash_flow_stream as callee
+use Rattle.rate_streams.proofs.discount_cash_flow_stream.Symbol as callee-def
+use Rattle.rate_streams.proofs.discount_cash_flow_stream.Met as callee-thm
 use Rattle.answers.proofs.LentRecords.{flows-val, flows-ty, Flows, Shared, slice-of, lends, has-back, flows-typed}
 use Rattle.answers.proofs.records.stream.Key as key
 use Rattle.answers.proofs.records.stream as f

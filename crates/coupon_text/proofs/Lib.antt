@@ -1,0 +1,4 @@
+pub mod Parts
+pub mod Texts
+pub mod OneOutcome
+pub mod Examples

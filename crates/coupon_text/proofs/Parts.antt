@@ -1,0 +1,113 @@
+-- Blanks trimmed at either end, and the parts at the first dot: by one byte more or less.
+-- Assumes nothing.
+use Prim.Native.Nat.{ℕ, zero, suc, _+_, _-_, _≤_, _<_}
+use mathlib.Core.Path.{_≡_, refl, sym, _∙_, ap}
+use mathlib.Core.Bool.{true, false}
+use mathlib.Core.List.{List, [], _∷_, _++_, append-assoc}
+use native.Mathlib.Omega.{arith}
+use native.Mathlib.Numerals.{add-one}
+use lib.Dec.{eqb}
+use lib.ListN.{length, take, drop, getD, drop-of-length-le, length-drop}
+use lib.Seq.{take-suc, take-all}
+use borrow.Author.Tests.{eq-eqb, ne-eqb}
+use Rattle.reading.proofs.Decimals.{byte-first}
+use Rattle.coupon_text.specs.CouponTexts.{isBlank, trimStart, before, trimEnd, hasDot, upToDot, afterDot, DotAt}
+
+-- a part up to the end of the text, and one up to a place
+pub part-from : (s : List ℕ) (i : ℕ) → take (length s - i) (drop i s) ≡ drop i s
+part-from s i = take-all (length s - i) (drop i s) (omega (arith, length-drop i s))
+
+-- leading blanks: at place i they are still to be trimmed
+module _ (s : List ℕ) (i : ℕ) where
+  pub start-more : (z : List ℕ) → trimStart (drop i s) ≡ z → i < length s → isBlank (getD s i 0) ≡ true → trimStart (drop (i + 1) s) ≡ z
+  unfolding trimStart
+  start-more z e h b = sym (ap trimStart (byte-first s i h) ∙ rw b) ∙ e
+
+  pub start-here : (z : List ℕ) → trimStart (drop i s) ≡ z → i < length s → isBlank (getD s i 0) ≡ false → drop i s ≡ z
+  unfolding trimStart
+  start-here z e h b = byte-first s i h ∙ sym (ap trimStart (byte-first s i h) ∙ rw b) ∙ e
+
+  pub start-end : (z : List ℕ) → trimStart (drop i s) ≡ z → length s ≤ i → drop i s ≡ z
+  unfolding trimStart
+  start-end z e h = let n = drop-of-length-le s h in n ∙ sym (ap trimStart n) ∙ e
+
+-- trailing blanks: the last byte goes, or all stays
+end-blank : (s : List ℕ) (b : ℕ) → isBlank b ≡ true → trimEnd (s ++ (b ∷ [])) ≡ trimEnd s
+unfolding trimEnd before
+end-blank [] b h = rw h
+end-blank (c ∷ s) b h = ap (before c) (end-blank s b h)
+
+end-stays : (s : List ℕ) (b : ℕ) → isBlank b ≡ false → trimEnd (s ++ (b ∷ [])) ≡ s ++ (b ∷ [])
+unfolding trimEnd before
+end-stays [] b h = rw h
+end-stays (c ∷ s) b h = ap (before c) (end-stays s b h) ∙ kept c s
+  where
+    kept : (c : ℕ) (s : List ℕ) → before c (s ++ (b ∷ [])) ≡ c ∷ (s ++ (b ∷ []))
+    kept c [] = refl
+    kept c (d ∷ s) = refl
+
+last : (s : List ℕ) (i : ℕ) → 1 ≤ i → i ≤ length s → take i s ≡ take (i - 1) s ++ (getD s (i - 1) 0 ∷ [])
+last s zero h k = absurd (omega arith)
+last s (suc j) h k = let e : suc j - 1 ≡ j = omega arith in rw e (take-suc s j 0 (omega arith))
+
+module _ (s : List ℕ) (i : ℕ) (z : List ℕ) (e : trimEnd (take i s) ≡ z) where
+  pub end-less : 1 ≤ i → i ≤ length s → isBlank (getD s (i - 1) 0) ≡ true → trimEnd (take (i - 1) s) ≡ z
+  end-less h k b = sym (ap trimEnd (last s i h k) ∙ end-blank (take (i - 1) s) (getD s (i - 1) 0) b) ∙ e
+
+  pub end-here : 1 ≤ i → i ≤ length s → isBlank (getD s (i - 1) 0) ≡ false → take i s ≡ z
+  end-here h k b = last s i h k ∙ sym (ap trimEnd (last s i h k) ∙ end-stays (take (i - 1) s) (getD s (i - 1) 0) b) ∙ e
+
+pub end-none : (s : List ℕ) (i : ℕ) (z : List ℕ) → trimEnd (take i s) ≡ z → i ≤ 0 → take i s ≡ z
+unfolding trimEnd
+end-none s zero z e h = e
+end-none s (suc i) z e h = absurd (omega arith)
+
+-- before place i there is no dot
+pub record NoDot (s : List ℕ) (i : ℕ) : Type 0 where
+  pub within : i ≤ length s
+  pub first : upToDot s ≡ take i s ++ upToDot (drop i s)
+  pub has : hasDot s ≡ hasDot (drop i s)
+  pub after : afterDot s ≡ afterDot (drop i s)
+
+pub no-dot-yet : (s : List ℕ) → NoDot s 0
+no-dot-yet s = record { within = omega arith; first = refl; has = refl; after = refl }
+
+pub no-dot-more : (s : List ℕ) (i : ℕ) → NoDot s i → i < length s → (getD s i 0 ≡ 46 → ⊥) → NoDot s (i + 1)
+unfolding upToDot hasDot afterDot
+no-dot-more s i n h d =
+    let c : eqb (getD s i 0) 46 ≡ false = ne-eqb _ _ d in
+    let b = byte-first s i h in
+    let t : take (i + 1) s ≡ take i s ++ (getD s i 0 ∷ []) = ap (λ (k : ℕ). take k s) (add-one i) ∙ take-suc s i 0 h in
+    record {
+      within = omega arith;
+      first = n .first ∙ ap (λ (r : List ℕ). take i s ++ upToDot r) b ∙ rw c (sym (ap (λ (r : List ℕ). r ++ upToDot (drop (i + 1) s)) t ∙ append-assoc (take i s) (getD s i 0 ∷ []) (upToDot (drop (i + 1) s))));
+      has = n .has ∙ ap hasDot b ∙ rw c;
+      after = n .after ∙ ap afterDot b ∙ rw c;
+    }
+
+append-none : (s : List ℕ) → s ++ [] ≡ s
+append-none [] = refl
+append-none (b ∷ s) = ap (λ (r : List ℕ). b ∷ r) (append-none s)
+
+pub dot-here : (s : List ℕ) (i : ℕ) → NoDot s i → i < length s → getD s i 0 ≡ 46 → DotAt s i
+unfolding upToDot hasDot afterDot
+dot-here s i n h d =
+    let c : eqb (getD s i 0) 46 ≡ true = eq-eqb _ _ d in
+    let b = byte-first s i h in
+    record {
+      within = n .within;
+      first = sym (n .first ∙ ap (λ (r : List ℕ). take i s ++ upToDot r) b ∙ rw c (append-none (take i s)));
+      there = λ l. (n .has ∙ ap hasDot b ∙ rw c, sym (n .after ∙ ap afterDot b ∙ rw c));
+      none = λ l. absurd (omega arith);
+    }
+
+pub dot-nowhere : (s : List ℕ) (i : ℕ) → NoDot s i → length s ≤ i → DotAt s i
+unfolding upToDot hasDot afterDot
+dot-nowhere s i n h =
+    let b = drop-of-length-le s h in
+    record {
+      within = n .within;
+      first = sym (n .first ∙ ap (λ (r : List ℕ). take i s ++ upToDot r) b ∙ append-none (take i s));
+      there = λ l. absurd (omega arith);
+      none = λ l. n .has ∙ ap hasDot b;
+    }

@@ -1,0 +1,125 @@
+-- The text of a coupon date: its length, and that it reads back.
+-- Assumes nothing.
+use Prim.Native.Nat.{ℕ, _+_, _≤_, _<_}
+use mathlib.Core.Path.{_≡_, refl, sym, _∙_, ap, ap₂}
+use mathlib.Core.Bool.{true, false}
+use mathlib.Core.List.{List, [], _∷_, _++_}
+use native.Mathlib.Omega.{arith}
+use lib.Dec.{eqb, leb}
+use lib.ListN.{length, length-append}
+use borrow.Author.Tests.{ne-eqb, lt-leb, le-leb, leb-true}
+use Rattle.paper.specs.Outcome.{given, both}
+use Rattle.paper.proofs.Outcomes.{both-true, unless-given, given-injective}
+use Rattle.reading.specs.Reading.{isDigit, allDigits}
+use Rattle.text.specs.Writing.{paddedText}
+use Rattle.reading.proofs.Decimals.{digit-bounds}
+use Rattle.text.proofs.Digits.{length-padded, places-least, digits-all}
+use Rattle.text.proofs.RoundTrips.{padded-back}
+use Rattle.gregorian.specs.Gregorian.{monthLength}
+use Rattle.coupon_text.specs.CouponTexts.{isBlank, trimStart, before, trimEnd, trimmed, hasDot, upToDot, afterDot, monthPart, dayPart, couponText, couponDateText}
+use Rattle.coupon_date.specs.Coupons.{couponDate}
+use Rattle.coupon_date.specs.declared.CouponDate.{CouponDate}
+use Rattle.gregorian.proofs.Months.{at-most}
+
+pub text-length : (c : CouponDate) → length (couponDateText c) ≡ length (paddedText 2 (c .day)) + 1 + length (paddedText 2 (c .month))
+unfolding couponDateText
+text-length c = omega (arith, length-append (paddedText 2 (c .day)) (46 ∷ paddedText 2 (c .month)))
+
+-- two digits, or up to the ten of a 32-bit number
+pub padded-most : (n : ℕ) → n < 4294967296 → length (paddedText 2 n) ≤ 10
+padded-most n h = omega (arith, length-padded 2 n, places-least 10 n (omega arith) (omega arith))
+
+-- a digit is neither a blank nor a dot
+digit-visible : (b : ℕ) → isDigit b ≡ true → isBlank b ≡ false
+unfolding isBlank
+digit-visible b h =
+    let k = digit-bounds b h in
+    rw (ne-eqb b 32 (λ e. omega arith), le-leb 9 b (omega arith), lt-leb b 13 (omega arith))
+
+dot-visible : isBlank 46 ≡ false
+unfolding isBlank
+dot-visible = refl
+
+digit-no-dot : (b : ℕ) → isDigit b ≡ true → eqb b 46 ≡ false
+digit-no-dot b h = let k = digit-bounds b h in ne-eqb b 46 (λ e. omega arith)
+
+-- no byte is a blank: nothing is trimmed
+data Visible : List ℕ → Type 0 where
+  none : Visible []
+  more : {b : ℕ} {s : List ℕ} → isBlank b ≡ false → Visible s → Visible (b ∷ s)
+
+digits-visible : (s : List ℕ) → allDigits s ≡ true → Visible s
+unfolding allDigits
+digits-visible [] h = none
+digits-visible (b ∷ s) h = let k = both-true (isDigit b) (allDigits s) h in more (digit-visible b (k .0)) (digits-visible s (k .1))
+
+visible-append : {s t : List ℕ} → Visible s → Visible t → Visible (s ++ t)
+visible-append none w = w
+visible-append (more h v) w = more h (visible-append v w)
+
+start-visible : {s : List ℕ} → Visible s → trimStart s ≡ s
+unfolding trimStart
+start-visible none = refl
+start-visible (more h v) = rw h
+
+end-visible : {s : List ℕ} → Visible s → trimEnd s ≡ s
+unfolding trimEnd before
+end-visible none = refl
+end-visible (more h none) = rw h
+end-visible (more {b} h (more k v)) = ap (before b) (end-visible (more k v))
+
+-- the parts of a text of digits, with a dot and without
+module _ (t : List ℕ) where
+  up-to-dot : (s : List ℕ) → allDigits s ≡ true → upToDot (s ++ (46 ∷ t)) ≡ s
+  unfolding upToDot allDigits
+  up-to-dot [] h = refl
+  up-to-dot (b ∷ s) h = let k = both-true (isDigit b) (allDigits s) h in rw (digit-no-dot b (k .0)) (ap (λ (r : List ℕ). b ∷ r) (up-to-dot s (k .1)))
+
+  has-dot : (s : List ℕ) → allDigits s ≡ true → hasDot (s ++ (46 ∷ t)) ≡ true
+  unfolding hasDot allDigits
+  has-dot [] h = refl
+  has-dot (b ∷ s) h = let k = both-true (isDigit b) (allDigits s) h in rw (digit-no-dot b (k .0)) (has-dot s (k .1))
+
+  after-dot : (s : List ℕ) → allDigits s ≡ true → afterDot (s ++ (46 ∷ t)) ≡ t
+  unfolding afterDot allDigits
+  after-dot [] h = refl
+  after-dot (b ∷ s) h = let k = both-true (isDigit b) (allDigits s) h in rw (digit-no-dot b (k .0)) (after-dot s (k .1))
+
+no-dot : (s : List ℕ) → allDigits s ≡ true → upToDot s ≡ s
+unfolding upToDot allDigits
+no-dot [] h = refl
+no-dot (b ∷ s) h = let k = both-true (isDigit b) (allDigits s) h in rw (digit-no-dot b (k .0)) (ap (λ (r : List ℕ). b ∷ r) (no-dot s (k .1)))
+
+padded-all : (n : ℕ) → allDigits (paddedText 2 n) ≡ true
+unfolding paddedText
+padded-all n = digits-all _ n
+
+-- a coupon date's text reads back as the same pair, judged again
+pub text-back : (c : CouponDate) → c .day < 4294967296 → c .month < 4294967296 → couponText (couponDateText c) ≡ couponDate (c .day) (c .month)
+unfolding couponText trimmed couponDateText dayPart monthPart
+text-back c d m =
+    let s = paddedText 2 (c .day) in
+    let t = paddedText 2 (c .month) in
+    let ds = padded-all (c .day) in
+    let dt = padded-all (c .month) in
+    let v = visible-append (digits-visible s ds) (more dot-visible (digits-visible t dt)) in
+    ap dayPart (ap trimEnd (start-visible v) ∙ end-visible v)
+    ∙ rw (has-dot t s ds, up-to-dot t s ds, after-dot t s ds, padded-back 6 2 (c .day) d, no-dot t dt, padded-back 6 2 (c .month) m)
+
+-- what is accepted has numbers of at most two digits
+pub accepted-small : (d m : ℕ) (c : CouponDate) → couponDate d m ≡ given c → (c .day ≡ d) × (c .month ≡ m) × (d ≤ 31) × (m ≤ 12)
+unfolding couponDate
+accepted-small d m c e =
+    let g = unless-given (both (leb 1 d) (both (leb 1 m) (leb m 12))) 7 _ c e in
+    let k = both-true (leb 1 m) (leb m 12) (both-true (leb 1 d) _ (g .0) .1) in
+    let h = unless-given (leb d (monthLength 2019 m)) 8 _ c (g .1) in
+    let q : _≡_ {A = CouponDate} (record { day = d; month = m }) c = given-injective (h .1) in
+    let l : d ≤ monthLength 2019 m = leb-true _ _ (h .0) in
+    let x : m ≤ 12 = leb-true _ _ (k .1) in
+    (ap (λ (x : CouponDate). x .day) (sym q), ap (λ (x : CouponDate). x .month) (sym q), omega (arith, at-most 2019 m), x)
+
+-- every accepted coupon date is read back from its text
+pub round-trip : (d m : ℕ) (c : CouponDate) → couponDate d m ≡ given c → couponText (couponDateText c) ≡ given c
+round-trip d m c e =
+    let k = accepted-small d m c e in
+    text-back c (omega arith) (omega arith) ∙ ap₂ couponDate (k .0) (k .1) ∙ e

@@ -1,0 +1,59 @@
+-- The text of a date: how long it is, and which answers the tests leave. Assumes nothing.
+use Prim.Native.Nat.{ℕ, _+_, _≤_, _<_, _^_, max}
+use mathlib.Core.Path.{_≡_, refl, ap, _∙_}
+use mathlib.Core.Bool.{true, false}
+use mathlib.Core.List.{List, _∷_, _++_}
+use lib.ListN.{length, length-append}
+use Rattle.paper.specs.Outcome.{Outcome, given, refused, andThen}
+use Rattle.text.specs.Writing.{Wrote, writtenLength, digits, places, paddedText}
+use Rattle.text.proofs.Writers.{written-fits, written-refused}
+use Rattle.calendar.specs.Dates.{isDate}
+use Rattle.calendar.specs.declared.Date.{Date}
+use Rattle.date_text.specs.DateTexts.{dateText, dateShown, shownBytes}
+use native.Mathlib.Omega.{arith}
+use Rattle.text.proofs.Digits.{length-digits, places-least}
+use Rattle.calendar.proofs.Dates.{date-yes}
+use Rattle.gregorian.proofs.Months.{at-most}
+
+-- ---- a date that exists: every number of its has as many digits as it is padded to
+
+padded-few : (k n : ℕ) → 1 ≤ k → n < 10 ^ k → paddedText k n ≡ digits k n
+unfolding paddedText
+padded-few k n h l = let e : max k (places n) ≡ k = omega (arith, places-least k n h l) in rw (e)
+
+pub date-digits : (t : Date) → isDate t ≡ true → dateText t ≡ digits 4 (t .year) ++ ((45 ∷ digits 2 (t .month)) ++ (45 ∷ digits 2 (t .day)))
+unfolding dateText
+date-digits t h =
+    let d = date-yes t h in
+    let most = at-most (t .year) (t .month) in
+    rw (padded-few 4 (t .year) (omega arith) (omega arith), padded-few 2 (t .month) (omega arith) (omega arith), padded-few 2 (t .day) (omega arith) (omega arith))
+
+pub month-day-long : (m d : ℕ) → length ((45 ∷ digits 2 m) ++ (45 ∷ digits 2 d)) ≡ 6
+month-day-long m d = omega (arith, length-append (45 ∷ digits 2 m) (45 ∷ digits 2 d), length-digits 2 m, length-digits 2 d)
+
+pub date-long : (t : Date) → isDate t ≡ true → length (dateText t) ≡ 10
+date-long t h =
+    let rest = (45 ∷ digits 2 (t .month)) ++ (45 ∷ digits 2 (t .day)) in
+    ap length (date-digits t h) ∙ omega (arith, length-append (digits 4 (t .year)) rest, length-digits 4 (t .year), month-day-long (t .month) (t .day))
+
+-- ---- any text that may be refused: written with room, not written without it, refused
+
+module _ (o : Outcome (List ℕ)) (d : List ℕ) where
+  pub writes-all : (xs e : List ℕ) (r : ℕ) → o ≡ given xs → Wrote d e 0 xs r → length xs ≤ length d → (given r ≡ andThen o (writtenLength d)) × (e ≡ shownBytes d o)
+  writes-all xs e r q w h = rw (q) (written-fits d e xs r w h)
+
+  pub writes-short : (xs : List ℕ) → o ≡ given xs → length d < length xs → (refused 16 ≡ andThen o (writtenLength d)) × (d ≡ shownBytes d o)
+  writes-short xs q h = rw (q) (written-refused d xs h)
+
+  pub writes-none : (n : ℕ) → o ≡ refused n → (refused n ≡ andThen o (writtenLength d)) × (d ≡ shownBytes d o)
+  writes-none n q = rw (q) (refl, refl)
+
+-- ---- a date
+
+pub date-given : (t : Date) → isDate t ≡ true → dateShown t ≡ given (dateText t)
+unfolding dateShown
+date-given t h = rw (h)
+
+pub date-refused : (t : Date) → isDate t ≡ false → dateShown t ≡ refused 1
+unfolding dateShown
+date-refused t h = rw (h)

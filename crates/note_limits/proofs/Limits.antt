@@ -1,0 +1,115 @@
+-- The machine's tests of a rate are the paper's.
+-- Assumes nothing.
+use Prim.Native.Nat.{ℕ, zero, suc, _+_, _/_, _%_, _^_, _<_, _≤_}
+use mathlib.Core.Path.{_≡_, refl, sym, ap, _∙_, subst}
+use mathlib.Core.Bool.{Bool, true, false, not, cond}
+use mathlib.Core.Logic.{_⊎_, inl, inr, ⊎-elim}
+use native.Mathlib.Omega.{arith}
+use lib.Dec.{T, leb, eqb}
+use lib.IntN.{ℤ, pos}
+use lib.Ieee.{Float, nan, inf, fin, binary64, odd, ofFields, ofBits, toBits, ofInt, fits, isNan, ne, le}
+use lib.Ieee.Bits.{ofBits-toBits, toBits-lt}
+use lib.Ieee.Compare.{differs-from-itself}
+use borrow.Author.Tests.{le-leb, lt-leb, ne-eqb}
+use Rattle.cash_amount.proofs.Limits.{le-or-lt, plus-most}
+use Rattle.note_limits.specs.Limits.{isNoteNumber, isRate}
+use Rattle.note_limits.specs.declared.NoteNumber.{NoteNumber}
+
+-- ---- a rate
+
+-- what `odd` makes has the sign it is given
+odd-signed : (d : ℕ) (s : Bool) (q k l : ℕ) → (m : ℕ) × (e : ℤ) × (odd d s q k l ≡ fin s m e)
+unfolding odd
+odd-signed d s zero k l = (_, _, refl)
+odd-signed d s (suc q) k l = (_, _, refl)
+
+negative : (x t : ℕ) → isRate (ofFields binary64 true x t) ≡ false
+unfolding ofFields isRate
+negative zero t = ap isRate (odd-signed 53 true t 0 1074 .2)
+negative (suc x) t = by (eqb (suc x) 2047) (eqb t 0)
+  where
+    by : (a b : Bool) → isRate (cond a (cond b (inf true) nan) (odd 53 true (4503599627370496 + t) x 1074)) ≡ false
+    by true true = refl
+    by true false = refl
+    by false b = ap isRate (odd-signed 53 true (4503599627370496 + t) x 1074 .2)
+
+not-finite : (s : Bool) (t : ℕ) → isRate (ofFields binary64 s 2047 t) ≡ false
+unfolding ofFields isRate
+not-finite s t = by s (eqb t 0)
+  where
+    by : (s b : Bool) → isRate (cond b (inf s) nan) ≡ false
+    by true true = refl
+    by false true = refl
+    by s false = refl
+
+plain : (x t : ℕ) → x < 2047 → (m : ℕ) × (e : ℤ) × (ofFields binary64 false x t ≡ fin false m e)
+unfolding ofFields
+plain zero t h = odd-signed 53 false t 0 1074
+plain (suc x) t h = rw (ne-eqb (suc x) 2047 (λ e. omega arith)) (odd-signed 53 false (4503599627370496 + t) x 1074)
+
+-- from these bits on the sign bit is set or the number is not finite; below them it is finite and its sign bit is clear
+pub high-bits : (b : ℕ) → 9218868437227405312 ≤ b → b < 2 ^ 64 → isRate (ofBits binary64 b) ≡ false
+unfolding ofBits
+high-bits b h l = by (le-or-lt 9223372036854775808 b)
+  where
+    by : (9223372036854775808 ≤ b) ⊎ (b < 9223372036854775808) → isRate (ofBits binary64 b) ≡ false
+    by (inl k) = rw (le-leb 9223372036854775808 b k) (negative (b % 9223372036854775808 / 4503599627370496) (b % 4503599627370496))
+    by (inr k) =
+        let e : b % 9223372036854775808 / 4503599627370496 ≡ 2047 = omega arith in
+        rw e (not-finite (leb 9223372036854775808 b) (b % 4503599627370496))
+
+pub low-bits : (b : ℕ) → b < 9218868437227405312 → (m : ℕ) × (e : ℤ) × (ofBits binary64 b ≡ fin false m e)
+unfolding ofBits
+low-bits b h =
+    rw (lt-leb 9223372036854775808 b (omega arith))
+    (plain (b % 9223372036854775808 / 4503599627370496) (b % 4503599627370496) (omega arith))
+
+hundred-is : ofBits binary64 4636737291354636288 ≡ fin false 25 (pos 2)
+unfolding ofBits
+hundred-is = refl
+
+hundred : (m : ℕ) (e : ℤ) → le (fin false m e) (ofBits binary64 4636737291354636288) ≡ isRate (fin false m e)
+unfolding isRate
+hundred m e = rw hundred-is (plus-most 25 100 (pos 2) refl refl m e)
+
+pub low-rate : (b : ℕ) → b < 9218868437227405312 → le (ofBits binary64 b) (ofBits binary64 4636737291354636288) ≡ isRate (ofBits binary64 b)
+low-rate b h = let z = low-bits b h in rw (z .2) (hundred (z .0) (z .1))
+
+-- a number equal to itself is no NaN, and any other is no rate
+pub not-nan : (x : Float) → ne x x ≡ false → T (not (isNan x))
+unfolding ne isNan
+not-nan nan e = subst T e tt
+not-nan (inf s) e = tt
+not-nan (fin s m d) e = tt
+
+pub nan-no-rate : (x : Float) → ne x x ≡ true → false ≡ isRate x
+unfolding isRate
+nan-no-rate x e = rw (differs-from-itself x (subst T (sym e) tt))
+
+-- and the same of the number whose bits they are
+pub rate-high : (x : Float) → T (fits binary64 x) → 9218868437227405312 ≤ toBits binary64 x → false ≡ isRate x
+rate-high x f h = sym (high-bits (toBits binary64 x) h (toBits-lt binary64 x f)) ∙ ap isRate (ofBits-toBits binary64 x f)
+
+pub rate-low : (x : Float) → T (fits binary64 x) → toBits binary64 x < 9218868437227405312 → le x (ofBits binary64 4636737291354636288) ≡ isRate x
+rate-low x f h =
+    subst (λ (y : Float). le y (ofBits binary64 4636737291354636288) ≡ isRate y) (ofBits-toBits binary64 x f)
+    (low-rate (toBits binary64 x) h)
+
+-- ---- a note's number
+
+above : (k n : ℕ) → k ≤ n → (n ≡ k → ⊥) → suc k ≤ n
+above k n h q = omega arith
+
+-- a count that is none of 1 to 10 is no number's
+pub none-to-ten : (n : ℕ) → (n ≡ 1 → ⊥) → (n ≡ 2 → ⊥) → (n ≡ 3 → ⊥) → (n ≡ 4 → ⊥) → (n ≡ 5 → ⊥) → (n ≡ 6 → ⊥) → (n ≡ 7 → ⊥) → (n ≡ 8 → ⊥) → (n ≡ 9 → ⊥) → (n ≡ 10 → ⊥) → (n < 1) ⊎ (10 < n)
+none-to-ten n q1 q2 q3 q4 q5 q6 q7 q8 q9 q10 = ⊎-elim (λ h. inr (above 10 n (above 9 n (above 8 n (above 7 n (above 6 n (above 5 n (above 4 n (above 3 n (above 2 n (above 1 n h q1) q2) q3) q4) q5) q6) q7) q8) q9) q10)) (λ l. inl l) (le-or-lt 1 n)
+
+pub no-count : (n : NoteNumber) → (n .count < 1) ⊎ (10 < n .count) → false ≡ isNoteNumber n
+unfolding isNoteNumber
+no-count n (inl l) = rw (lt-leb 1 (n .count) l)
+no-count n (inr l) = rw (le-leb 1 (n .count) (omega arith), lt-leb (n .count) 10 l)
+
+-- the literal 100.0 is the whole number 100
+pub hundred-whole : ofBits binary64 4636737291354636288 ≡ ofInt binary64 (pos 100)
+unfolding ofBits ofInt
+hundred-whole = refl

@@ -1,0 +1,4 @@
+pub mod Judging
+pub mod Added
+pub mod OneOutcome
+pub mod Examples

@@ -1,0 +1,75 @@
+-- The stream of records: what stands so far, with what is left of the slice, decides. Assumes nothing.
+use Prim.Native.Nat.{ℕ, _+_, _≤_, _<_}
+use mathlib.Core.Path.{_≡_, refl, sym, ap, _∙_}
+use mathlib.Core.Bool.{Bool, true, false}
+use mathlib.Core.List.{List, [], _∷_}
+use native.Mathlib.Numerals.{add-one}
+use native.Mathlib.Omega.{arith}
+use lib.ListN.{length, getD, drop, drop-of-length-le}
+use lib.Seq.{drop-cons}
+use lib.IntN.{pos}
+use lib.Ieee.{Float, nan}
+use denote.Laws.{Is}
+use denote.Enum.Laws as EL
+use Rattle.paper.specs.Outcome.{Outcome, given, refused, unless, andThen}
+use Rattle.calendar.specs.declared.Date.{Date}
+use Rattle.cash_amount.specs.Amounts.{amountOutcome}
+use Rattle.cash_amount.specs.declared.AmountAnswer.{AmountAnswer}
+use Rattle.cash_amount.proofs.AmountAnswer as E
+use Rattle.cash_amount.proofs.AmountAnswer.Laws as E′
+use Rattle.cash_flow.specs.declared.CashFlow.{CashFlow}
+use Rattle.day_fraction.specs.Fractions.{whole}
+use Rattle.rates.specs.Rates.{isRate, streamFrom, discountedStream}
+use Rattle.rate_streams.specs.Steps.{streamStart, flowOnto}
+use Rattle.rates.specs.declared.FlatRate.{FlatRate}
+use Rattle.rates.proofs.Streams.{stream-more, stream-none}
+
+-- the flow past a slice's end, which is never read
+abbrev pub noFlow : CashFlow
+noFlow = record { date = record { year = 0; month = 0; day = 0 }; currency = record { first = 0; second = 0; third = 0 }; amount = nan }
+
+-- an answer holds what its type says
+abbrev pub Held : AmountAnswer → Type 0
+Held a = Is E.the-row a (EL.vals E.the-type E′.the-laws a)
+
+pub record Summed (r : FlatRate) (today : Date) (ys : List CashFlow) : Type 0 where
+  pub i : ℕ
+  pub so-far : AmountAnswer
+  pub held : Held so-far
+  pub inside : i ≤ length ys
+  pub told : andThen (amountOutcome so-far) (λ sum. streamFrom r today sum (drop i ys)) ≡ discountedStream r today ys
+
+module _ (r : FlatRate) (today : Date) (ys : List CashFlow) where
+  pub start-told : (o : Outcome Float) → o ≡ streamStart r → andThen o (λ sum. streamFrom r today sum ys) ≡ discountedStream r today ys
+  unfolding streamStart discountedStream
+  start-told o e = rw (e) (go (isRate (r .rate)))
+    where
+      go : (b : Bool) → andThen (unless b 15 (given (whole (pos 0)))) (λ sum. streamFrom r today sum ys) ≡ unless b 15 (streamFrom r today (whole (pos 0)) ys)
+      go true = refl
+      go false = refl
+
+  abbrev pub sum-start : (a : AmountAnswer) → Held a → amountOutcome a ≡ streamStart r → Summed r today ys
+  sum-start a h e = record { i = 0; so-far = a; held = h; inside = omega arith; told = start-told (amountOutcome a) e }
+
+  onto : (o p : Outcome Float) (f : CashFlow) (fs : List CashFlow) → p ≡ flowOnto r today o f → andThen p (λ sum. streamFrom r today sum fs) ≡ andThen o (λ sum. streamFrom r today sum (f ∷ fs))
+  unfolding flowOnto
+  onto (given x) p f fs e = rw (e) (sym (stream-more r today x f fs))
+  onto (refused n) p f fs e = rw (e)
+
+  module _ (t : Summed r today ys) where
+    pub more-told : (a : AmountAnswer) → t .i < length ys → amountOutcome a ≡ flowOnto r today (amountOutcome (t .so-far)) (getD ys (t .i) noFlow) → andThen (amountOutcome a) (λ sum. streamFrom r today sum (drop (t .i + 1) ys)) ≡ discountedStream r today ys
+    more-told a l e =
+        let next : drop (t .i) ys ≡ getD ys (t .i) noFlow ∷ drop (t .i + 1) ys = drop-cons ys (t .i) noFlow l ∙ ap (λ (k : ℕ). getD ys (t .i) noFlow ∷ drop k ys) (sym (add-one (t .i))) in
+        onto (amountOutcome (t .so-far)) (amountOutcome a) (getD ys (t .i) noFlow) (drop (t .i + 1) ys) e
+        ∙ ap (λ (fs : List CashFlow). andThen (amountOutcome (t .so-far)) (λ sum. streamFrom r today sum fs)) (sym next)
+        ∙ t .told
+
+    abbrev pub sum-more : (a : AmountAnswer) → Held a → t .i < length ys → amountOutcome a ≡ flowOnto r today (amountOutcome (t .so-far)) (getD ys (t .i) noFlow) → Summed r today ys
+    sum-more a h l e = record { i = t .i + 1; so-far = a; held = h; inside = omega arith; told = more-told a l e }
+
+    pub sum-ends : length ys ≤ t .i → amountOutcome (t .so-far) ≡ discountedStream r today ys
+    sum-ends h = sym (go (amountOutcome (t .so-far))) ∙ ap (λ (fs : List CashFlow). andThen (amountOutcome (t .so-far)) (λ sum. streamFrom r today sum fs)) (sym (drop-of-length-le ys h)) ∙ t .told
+      where
+        go : (o : Outcome Float) → andThen o (λ sum. streamFrom r today sum []) ≡ o
+        go (given x) = stream-none r today x
+        go (refused n) = refl

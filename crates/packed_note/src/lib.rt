@@ -133,7 +133,8 @@ pub fn read_raw(s: &[u8]) -> Raw
     }
 }
 
-fn unit_of_code(code: u32) -> UnitAnswer
+// The unit of a packed code; 18: there is none.
+pub fn unit_of_code(code: u32) -> UnitAnswer
     ensures { λ r. ⌜ unitOutcome r ≡ unitOfCode code ⌝ }
 {
     match code {
@@ -146,8 +147,8 @@ fn unit_of_code(code: u32) -> UnitAnswer
     }
 }
 
-// Two bits have no other code.
-fn rule_of_code(code: u32) -> DayAdjust
+// The adjustment of a packed code; two bits have no other code, so that any other is the last.
+pub fn rule_of_code(code: u32) -> DayAdjust
     ensures { λ r. ⌜ r ≡ ruleOfCode code ⌝ }
 {
     match code {

@@ -1,6 +1,7 @@
 -- `exports::notes_flows_after` meets its contract: what the entry point answers, with the room that it wrote, is handed over.
 -- Assumes nothing.
 use Rattle.exports.proofs.Rooms.{listed-handed}
+use denote.Ref.{now}
 use borrow.Author.Needs.{needs}
 use Rattle.exports.proofs.notes_flows_after.Statement.{statement}
 use Rattle.exports.proofs.notes_flows_after.Tie as tie
@@ -23,7 +24,8 @@ same-length-3 c = search needs
 returns : tie.Need-returns
 returns c =
     let a = c .before .before .before .before .before .before .before .before in
-    listed-handed _ _ _ _ (c .hand-flows .ensures) _ _ _ _ _ _ _ (a .flows-after-listed .ensures .answer) (a .flows-after-listed .ensures .contents)
+    let s : tie.Start = a .before .before .before .before .before .before .before .before .before .before in
+    listed-handed _ _ _ _ (c .hand-flows .ensures) (now (s .args .out-days)) (now (s .args .out-currencies)) _ _ (now (s .args .out-amounts)) _ _ (a .flows-after-listed .ensures .answer) (a .flows-after-listed .ensures .contents)
 
 pub notes-flows-after-spec : {M : Type 1} → statement M
 notes-flows-after-spec =

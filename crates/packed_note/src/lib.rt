@@ -26,7 +26,8 @@ use time_period::UnitAnswer;
 // From these bits on a number has its sign bit set or is not finite.
 const NO_RATE: u64 = 0x7ff0_0000_0000_0000;
 
-fn unit_of_code(code: u32) -> UnitAnswer
+// Inner: the unit of a packed code; 18: there is none.
+pub fn unit_of_code(code: u32) -> UnitAnswer
     ensures { λ r. ⌜ unitOutcome r ≡ unitOfCode code ⌝ }
 {
     match code {
@@ -39,8 +40,8 @@ fn unit_of_code(code: u32) -> UnitAnswer
     }
 }
 
-// Two bits have no other code.
-fn rule_of_code(code: u32) -> DayAdjust
+// Inner: the adjustment of a packed code; two bits have no other code, so that any other is the last.
+pub fn rule_of_code(code: u32) -> DayAdjust
     ensures { λ r. ⌜ r ≡ ruleOfCode code ⌝ }
 {
     match code {

@@ -31,7 +31,8 @@ use time_period::TimePeriodUnit;
 // The largest number that the 12 bits of a period hold.
 const MOST_NUMBER: i32 = 4095;
 
-fn unit_code(unit: TimePeriodUnit) -> u32
+// Inner: its packed code.
+pub fn unit_code(unit: TimePeriodUnit) -> u32
     ensures { λ r. ⌜ r ≡ unitCode unit ⌝ }
 {
     match unit {

@@ -1,0 +1,24 @@
+-- `exports::notes_write_decimal` meets its contract: what the entry point answers, with the room that it wrote, is handed over.
+-- Assumes nothing.
+use Rattle.exports.proofs.Rooms.{decimal-handed}
+use borrow.Author.Needs.{needs}
+use Rattle.exports.proofs.notes_write_decimal.Statement.{statement}
+use Rattle.exports.proofs.notes_write_decimal.Tie as tie
+
+write-decimal-requires : tie.Need-write-decimal-requires
+write-decimal-requires c κs = search needs
+
+hand-length-requires : tie.Need-hand-length-requires
+hand-length-requires c κs = search needs
+
+same-length : tie.Need-same-length
+same-length c = search needs
+
+returns : tie.Need-returns
+returns c =
+    let a = c .before .before .before .before in
+    decimal-handed _ _ _ _ _ _ (c .hand-length .ensures) _ (a .write-decimal .ensures .0) (a .write-decimal .ensures .1)
+
+pub notes-write-decimal-spec : {M : Type 1} → statement M
+notes-write-decimal-spec =
+    tie.close (tie.spec write-decimal-requires hand-length-requires same-length returns)

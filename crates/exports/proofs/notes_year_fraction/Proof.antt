@@ -1,0 +1,48 @@
+-- `exports::notes_year_fraction` meets its contract: the code's refusal, or what the entry point answers, is handed over.
+-- Assumes nothing.
+use mathlib.Core.Path.{refl}
+use borrow.Author.Needs.{needs}
+use Rattle.exports.proofs.notes_year_fraction.Statement.{statement}
+use Rattle.exports.proofs.notes_year_fraction.Tie as tie
+
+convention-of-requires : tie.Need-convention-of-requires
+convention-of-requires c κs = search needs
+
+enum-known-c : tie.Need-enum-known-c
+enum-known-c c = search needs
+
+no-extras-requires : tie.Need-no-extras-requires
+no-extras-requires c κs = search needs
+
+year-fraction-requires : tie.Need-year-fraction-requires
+year-fraction-requires c κs = search needs
+
+hand-fraction-requires : tie.Need-hand-fraction-requires
+hand-fraction-requires c κs = search needs
+
+enum-known-n : tie.Need-enum-known-n
+enum-known-n c = search needs
+
+returns : tie.Need-returns
+returns c =
+    let a = c .before .before in
+    let p = a .before .before .before .before .before in
+    rw (← p .convention-of .ensures, a .before .before .before .c .given .1, ← (rw (a .before .no-extras .ensures) at (a .year-fraction .ensures .0))) (c .hand-fraction .ensures)
+
+returns-2 : tie.Need-returns-2
+returns-2 c =
+    let p = c .before .before .before in
+    rw (← p .convention-of .ensures, c .before .n .given .1) (refl, refl)
+
+pub notes-year-fraction-spec : {M : Type 1} → statement M
+notes-year-fraction-spec =
+    tie.close
+    (tie.spec
+    convention-of-requires
+    enum-known-c
+    no-extras-requires
+    year-fraction-requires
+    hand-fraction-requires
+    enum-known-n
+    returns
+    returns-2)

@@ -48,7 +48,7 @@ use Rattle.accrued_interest.proofs.OneOutcome.{accrued-numbered}
 use Rattle.room.specs.Room.{counted}
 use Rattle.listed_flows.specs.Listed.{Listed}
 use Rattle.listed_flows.specs.Listed.{listedWritten}
-use Rattle.listed_rates.proofs.OneOutcome.{listed-numbered}
+use Rattle.listed_flows.proofs.OneOutcome.{listed-numbered}
 use Rattle.rates.specs.Rates.{discountFactor, discountedStream}
 use Rattle.rates.proofs.OneOutcome.{factor-numbered, stream-numbered}
 use Rattle.hand_over.specs.HandOver.{HandsOver, passedAs}

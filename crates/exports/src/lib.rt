@@ -33,7 +33,6 @@ ghost use Rattle.exports.specs.Numbers.{serialDay, date, coupon, currenc
 ghost use Rattle.exports.specs.Rooms.{textIn, decimalShown, flowsIn, listedIn};
 use bond::Note;
 use bond::NoteAnswer;
-use note_limits::NoteNumber;
 use calendar::Date;
 use calendar::Day;
 use cash_amount::Currency;
@@ -45,6 +44,7 @@ use day_count_conv::DayCountConv;
 use day_count_conv::Extras;
 use day_count_conv::RollDate;
 use day_count_conv::RollPeriod;
+use note_limits::NoteNumber;
 use rates::FlatRate;
 use time_period::PeriodAnswer;
 use time_period::TimePeriod;

@@ -1,4 +1,5 @@
-/* The register from C: dates, steps, fractions and a note, each with a refusal. examples/run-face builds it, runs it and holds it to face.out. */
+/* The register from C: every function is called, most of them for a refusal too, and what is lent is looked at afterwards.
+   examples/run-face builds it, runs it and holds it to face.out. */
 #include <stdio.h>
 #include <string.h>
 
@@ -16,6 +17,7 @@ static void told(uint32_t refusal, int kept)
 static void dates(void)
 {
     uint32_t serial = UNTOUCHED, weekday = UNTOUCHED, year = UNTOUCHED, month = UNTOUCHED, day = UNTOUCHED;
+    uint32_t april = UNTOUCHED, days = UNTOUCHED, refusal;
 
     notes_day_of(2021, 1, 15, &serial);
     notes_weekday(serial, &weekday);
@@ -23,9 +25,18 @@ static void dates(void)
     printf("serial day of 2021-01-15: %u, weekday %u, back %04u-%02u-%02u\n",
            (unsigned)serial, (unsigned)weekday, (unsigned)year, (unsigned)month, (unsigned)day);
 
+    notes_day_of(2021, 4, 15, &april);
+    notes_days_between(serial, april, &days);
+    printf("days from there to 2021-04-15: %u\n", (unsigned)days);
+    days = UNTOUCHED;
+    refusal = notes_days_between(april, serial, &days);
+    printf("days back: ");
+    told(refusal, days == UNTOUCHED);
+
     serial = UNTOUCHED;
+    refusal = notes_day_of(2021, 2, 29, &serial);
     printf("serial day of 2021-02-29: ");
-    told(notes_day_of(2021, 2, 29, &serial), serial == UNTOUCHED);
+    told(refusal, serial == UNTOUCHED);
 }
 
 static void step(const char *what, int32_t num, uint32_t unit, uint32_t year, uint32_t month, uint32_t day)
@@ -42,22 +53,101 @@ static void step(const char *what, int32_t num, uint32_t unit, uint32_t year, ui
 
 static void steps(void)
 {
-    uint32_t monday = 0, y = UNTOUCHED, m = UNTOUCHED, d = UNTOUCHED;
+    uint32_t y = UNTOUCHED, m = UNTOUCHED, d = UNTOUCHED, refusal;
 
     step("2024-02-29 +12M", 12, NOTES_MONTHS, 2024, 2, 29);
     step("2024-02-29 +1Y", 1, NOTES_YEARS, 2024, 2, 29);
     step("2021-01-31 +1M", 1, NOTES_MONTHS, 2021, 1, 31);
-    step("2021-02-28 -1M", -1, NOTES_MONTHS, 2021, 2, 28);
     step("2021-03-15 -15M", -15, NOTES_MONTHS, 2021, 3, 15);
     step("9999-12-01 +1M", 1, NOTES_MONTHS, 9999, 12, 1);
     step("2021-01-15 +1B without a table", 1, NOTES_BUSINESS_DAYS, 2021, 1, 15);
     step("2021-01-15 +1 of unit 5", 1, 5, 2021, 1, 15);
 
-    /* Friday; the Monday behind it is a holiday, so that Tuesday is next. */
-    notes_day_of(2021, 1, 18, &monday);
-    notes_add_to_with(1, NOTES_BUSINESS_DAYS, 2021, 1, 15, &monday, 1, &y, &m, &d);
-    printf("2021-01-15 +1B, Monday a holiday: %04u-%02u-%02u\n", (unsigned)y, (unsigned)m, (unsigned)d);
+    refusal = notes_sub_from(INT32_MIN, NOTES_DAYS, 2021, 2, 28, &y, &m, &d);
+    printf("2021-02-28, the least number of days back: ");
+    told(refusal, y == UNTOUCHED && m == UNTOUCHED && d == UNTOUCHED);
+    notes_sub_from(1, NOTES_MONTHS, 2021, 2, 28, &y, &m, &d);
+    printf("2021-02-28, 1M back: %04u-%02u-%02u\n", (unsigned)y, (unsigned)m, (unsigned)d);
+}
 
+static void period(const char *text)
+{
+    int32_t num = -4242;
+    uint32_t unit = UNTOUCHED, per_year = UNTOUCHED;
+    uint8_t back[12];
+    size_t length = UNTOUCHED;
+    uint32_t refusal = notes_read_period((const uint8_t *)text, strlen(text), &num, &unit);
+
+    printf("period %s: ", text);
+    if (refusal != 0) {
+        told(refusal, num == -4242 && unit == UNTOUCHED);
+        return;
+    }
+    notes_write_period(num, unit, back, sizeof back, &length);
+    printf("%d of unit %u, back %.*s, a year: ", (int)num, (unsigned)unit, (int)length, (const char *)back);
+    refusal = notes_frequency(num, unit, &per_year);
+    if (refusal == 0)
+        printf("%u\n", (unsigned)per_year);
+    else
+        told(refusal, per_year == UNTOUCHED);
+}
+
+static void coupon(const char *text)
+{
+    uint32_t day = UNTOUCHED, month = UNTOUCHED;
+    uint8_t back[8];
+    size_t length = UNTOUCHED;
+    uint32_t refusal = notes_read_coupon_date((const uint8_t *)text, strlen(text), &day, &month);
+
+    printf("coupon date %s: ", text);
+    if (refusal != 0) {
+        told(refusal, day == UNTOUCHED && month == UNTOUCHED);
+        return;
+    }
+    notes_write_coupon_date(day, month, back, sizeof back, &length);
+    printf("day %u of month %u, back %.*s\n", (unsigned)day, (unsigned)month, (int)length, (const char *)back);
+}
+
+static void checked_coupon(uint32_t day, uint32_t month)
+{
+    uint32_t refusal = notes_new_coupon_date(day, month);
+
+    if (refusal == 0)
+        printf("coupon date %02u.%02u: passes its check\n", (unsigned)day, (unsigned)month);
+    else
+        printf("coupon date %02u.%02u: refused %u\n", (unsigned)day, (unsigned)month, (unsigned)refusal);
+}
+
+static void texts(void)
+{
+    period("+6M");
+    period("-12D");
+    period("6X");
+    coupon("15.7");
+    coupon("15");
+    coupon("29.02");
+    checked_coupon(31, 12);
+    checked_coupon(12, 31);
+}
+
+/* Friday 2021-01-15; the Monday behind it is a holiday, so that Tuesday is next. */
+static void business_days(void)
+{
+    uint32_t friday = 0, monday = 0, open = UNTOUCHED, shut = UNTOUCHED, next = UNTOUCHED, before = UNTOUCHED;
+    uint32_t y = UNTOUCHED, m = UNTOUCHED, d = UNTOUCHED;
+
+    notes_day_of(2021, 1, 15, &friday);
+    notes_day_of(2021, 1, 18, &monday);
+    notes_is_business_day(friday, &monday, 1, &open);
+    notes_is_business_day(monday, &monday, 1, &shut);
+    notes_bdays_later(friday, 1, &monday, 1, &next);
+    notes_bdays_earlier(next, 1, &monday, 1, &before);
+    printf("Friday %u is open: %u; Monday %u is open: %u; next %u, before that %u\n",
+           (unsigned)friday, (unsigned)open, (unsigned)monday, (unsigned)shut, (unsigned)next, (unsigned)before);
+    notes_add_to_with(1, NOTES_BUSINESS_DAYS, 2021, 1, 15, &monday, 1, &y, &m, &d);
+    printf("2021-01-15 +1B: %04u-%02u-%02u", (unsigned)y, (unsigned)m, (unsigned)d);
+    notes_sub_from_with(1, NOTES_BUSINESS_DAYS, y, m, d, &monday, 1, &y, &m, &d);
+    printf(", 1B back: %04u-%02u-%02u\n", (unsigned)y, (unsigned)m, (unsigned)d);
     notes_adjust_date(NOTES_MODIFIED, 2021, 7, 31, &monday, 0, &y, &m, &d);
     printf("2021-07-31 modified, no holidays: %04u-%02u-%02u\n", (unsigned)y, (unsigned)m, (unsigned)d);
 }
@@ -95,14 +185,20 @@ static void fractions(void)
 static void amounts(void)
 {
     double up = 0, down = 0, factor = 0;
-    uint8_t text[16];
+    uint8_t text[40];
     size_t length = 0;
+    uint32_t close = UNTOUCHED, apart = UNTOUCHED;
 
     notes_round2digits(2.5, 0, &up);
     notes_round2digits(-2.5, 0, &down);
     printf("2.5 and -2.5 to 0 digits: %g and %g\n", up, down);
     notes_write_decimal(20.0, text, sizeof text, &length);
     printf("20 with four decimals: [%.*s]\n", (int)length, (const char *)text);
+    notes_write_cash_flow(2021, 7, 15, 'E', 'U', 'R', 20.0, text, sizeof text, &length);
+    printf("as a flow: [%.*s]\n", (int)length, (const char *)text);
+    notes_fuzzy_cash_flows_cmp_eq(2021, 7, 15, 'E', 'U', 'R', 20.0, 2021, 7, 15, 'E', 'U', 'R', 20.25, 0.25, &close);
+    notes_fuzzy_cash_flows_cmp_eq(2021, 7, 15, 'E', 'U', 'R', 20.0, 2021, 7, 15, 'E', 'U', 'S', 20.0, 0.25, &apart);
+    printf("20 and 20.25 within 0.25: %u; EUR and EUS: %u\n", (unsigned)close, (unsigned)apart);
     notes_discount_factor(0.05, NOTES_ACT_365, 'E', 'U', 'R', 2021, 1, 15, 2022, 1, 15, &factor);
     printf("5 percent for 365 days, Act/365: %.12f\n", factor);
 }
@@ -229,6 +325,8 @@ int main(void)
 {
     dates();
     steps();
+    texts();
+    business_days();
     fractions();
     amounts();
     rollout();

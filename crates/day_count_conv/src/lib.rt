@@ -2,8 +2,9 @@
 ghost use mathlib.Core.Path.{_≡_};
 ghost use mathlib.Core.Bool.{true};
 ghost use Prim.Native.Nat.{_≤_};
+ghost use lib.IntN.{pos};
 ghost use Rattle.calendar.specs.Dates.{isDate, dayNumber};
-ghost use Rattle.day_fraction.specs.Fractions.{Span};
+ghost use Rattle.day_fraction.specs.Fractions.{Span, days as daysOf};
 ghost use Rattle.day_count_conv.specs.Conventions.{fractionOutcome, inBits, simpleFraction, partAdded, partsBits, walkedFraction, frequentFraction, icmaFraction, rollDateExists, byRule, rollDated, codeOf, ConventionPromise, FractionPromise};
 use calendar::Date;
 use day_fraction::SimpleRule;
@@ -182,6 +183,21 @@ fn roll_dated(rule: DayCountConv, x: Extras) -> bool
     }
 }
 
+// The same with the days between them: the two rules that take no more are answered here.
+fn by_rule(rule: DayCountConv, start: Date, end: Date, days: u32, x: Extras) -> YearFraction
+    requires { ⌜ (Span start end) × (rollDated rule (x .roll) ≡ true) × (pos days ≡ daysOf start end) ⌝ }
+    ensures { λ r. ⌜ fractionOutcome r ≡ byRule inBits rule start end x ⌝ }
+{
+    match rule {
+        DayCountConv::Act365 => YearFraction::Fraction(days as f64 / 365.0),
+        DayCountConv::Act360 => YearFraction::Fraction(days as f64 / 360.0),
+        DayCountConv::Act365l => simple(SimpleRule::Act365l, start, end),
+        DayCountConv::D30_360 => simple(SimpleRule::D30_360, start, end),
+        DayCountConv::D30E360 => simple(SimpleRule::D30E360, start, end),
+        DayCountConv::ActActICMA => act_act_icma(x, start, end),
+    }
+}
+
 // The year fraction from start to end.
 pub fn year_fraction(rule: DayCountConv, start: Date, end: Date, x: Extras) -> YearFraction
     ensures { λ r. ⌜ FractionPromise rule start end x r ⌝ }
@@ -195,8 +211,10 @@ pub fn year_fraction(rule: DayCountConv, start: Date, end: Date, x: Extras) -> Y
     if !roll_dated(rule, x) {
         return YearFraction::Refused(paper::INVALID_DATE);
     }
-    if calendar::is_before(end, start) {
+    let from = calendar::number_of(start);
+    let to = calendar::number_of(end);
+    if to < from {
         return YearFraction::Refused(paper::START_AFTER_END);
     }
-    fraction_judged(rule, start, end, x)
+    by_rule(rule, start, end, to - from, x)
 }

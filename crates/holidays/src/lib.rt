@@ -28,23 +28,25 @@ const LAST_DAY: u32 = 3652059;
 
 const SATURDAY: u32 = 6;
 
+// All days are looked at, good or not, since the compiler then takes many at once; where they ascend the last is the latest.
 fn is_ascending(table: &[u32]) -> bool
     ensures { λ r. ⌜ r ≡ ascending (now (table .entry)) ⌝ }
 {
-    let mut low = FIRST_DAY;
+    let mut good = true;
+    let mut last: u32 = 0;
     let mut i: usize = 0;
     while i < table.len() {
         let day = table[i];
-        if day < low {
-            return false;
+        if day <= last {
+            good = false;
         }
-        if LAST_DAY < day {
-            return false;
-        }
-        low = day + 1;
+        last = day;
         i += 1;
     }
-    true
+    if LAST_DAY < last {
+        return false;
+    }
+    good
 }
 
 // Whether a holiday table is taken; where it is not, every question over it is refused with 13.

@@ -1,11 +1,19 @@
 -- `day_count_conv::year_fraction` meets its contract: the checks in their order, and then the rule; how far off it is follows from its bits.
 -- Assumes nothing.
-use mathlib.Core.Path.{sym, _∙_}
+use Prim.Native.Nat.{ℕ, _-_}
+use mathlib.Core.Path.{_≡_, sym, _∙_, ap₂}
+use mathlib.Core.Bool.{true}
+use native.Mathlib.Omega.{arith}
 use borrow.Author.Tests.{not-true, not-false}
 use borrow.Author.Needs.{needs}
-use Rattle.calendar.proofs.Order.{not-before}
+use Rattle.calendar.specs.Dates.{isDate}
+use Rattle.calendar.proofs.Order.{days-before}
 use Rattle.calendar.proofs.Dates.{date-yes}
-use Rattle.day_count_conv.specs.Conventions.{yearFraction}
+use Rattle.day_count_conv.specs.Conventions.{yearFraction, rollDated, inBits}
+use lib.IntN.{pos}
+use Rattle.day_fraction.specs.Fractions.{Span}
+use Rattle.day_fraction.proofs.Differences.{diff-of, diff-pos}
+use Rattle.day_count_conv.proofs.Judged.{span-fraction}
 use Rattle.day_count_conv.proofs.Bounds.{promised}
 use Rattle.day_count_conv.proofs.year_fraction.Statement.{statement}
 use Rattle.day_count_conv.proofs.year_fraction.Tie as tie
@@ -37,25 +45,49 @@ returns-3 c =
     let s : tie.Start = c .before .before .before .before .before .before in
     promised (s .args .rule) (s .args .start) (s .args .end) (s .args .x) _ (rw (sym (c .before .before .before .before .before .is-date .ensures) ∙ not-false _ (c .before .before .before .before .if1 .left), sym (c .before .before .before .is-date2 .ensures) ∙ not-false _ (c .before .before .if2 .left), sym (c .before .roll-dated .ensures) ∙ not-true _ (c .if3 .taken)))
 
-is-before-requires : tie.Need-is-before-requires
-is-before-requires c κs = search needs
+-- past their tests the dates are dates, and the roll date too
+module _ (c : tie.Else3) where
+  abbrev begun : tie.Start
+  begun = c .before .before .before .before .before .before
+
+  starts : isDate (begun .args .start) ≡ true
+  starts = sym (c .before .before .before .before .before .is-date .ensures) ∙ not-false _ (c .before .before .before .before .if1 .left)
+
+  ends : isDate (begun .args .end) ≡ true
+  ends = sym (c .before .before .before .is-date2 .ensures) ∙ not-false _ (c .before .before .if2 .left)
+
+  rolls : rollDated (begun .args .rule) (begun .args .x .roll) ≡ true
+  rolls = sym (c .before .roll-dated .ensures) ∙ not-false _ (c .if3 .left)
+
+number-of-requires : tie.Need-number-of-requires
+number-of-requires c κs = starts c
+
+number-of-requires-2 : tie.Need-number-of-requires-2
+number-of-requires-2 c κs = ends (c .before)
 
 returns-4 : tie.Need-returns-4
 unfolding yearFraction
 returns-4 c =
-    let s : tie.Start = c .before .before .before .before .before .before .before .before in
-    promised (s .args .rule) (s .args .start) (s .args .end) (s .args .x) _ (rw (sym (c .before .before .before .before .before .before .before .is-date .ensures) ∙ not-false _ (c .before .before .before .before .before .before .if1 .left), sym (c .before .before .before .before .before .is-date2 .ensures) ∙ not-false _ (c .before .before .before .before .if2 .left), sym (c .before .before .before .roll-dated .ensures) ∙ not-false _ (c .before .before .if3 .left), sym (c .before .is-before .ensures) ∙ c .if4 .taken))
+    let e = c .before .before .before in
+    let s = begun e in
+    promised (s .args .rule) (s .args .start) (s .args .end) (s .args .x) _ (rw (starts e, ends e, rolls e, days-before (s .args .end) (s .args .start) (date-yes _ (ends e)) (date-yes _ (starts e)) (omega (arith, c .before .before .number-of .ensures, c .before .number-of2 .ensures, c .if4 .taken))))
 
-fraction-judged-requires : tie.Need-fraction-judged-requires
-fraction-judged-requires c κs =
-    let s : tie.Start = c .before .before .before .before .before .before .before .before in
-    (record { first = sym (c .before .before .before .before .before .before .before .is-date .ensures) ∙ not-false _ (c .before .before .before .before .before .before .if1 .left); last = sym (c .before .before .before .before .before .is-date2 .ensures) ∙ not-false _ (c .before .before .before .before .if2 .left); order = not-before (s .args .end) (s .args .start) (date-yes (s .args .end) (sym (c .before .before .before .before .before .is-date2 .ensures) ∙ not-false _ (c .before .before .before .before .if2 .left))) (date-yes (s .args .start) (sym (c .before .before .before .before .before .before .before .is-date .ensures) ∙ not-false _ (c .before .before .before .before .before .before .if1 .left))) (sym (c .before .is-before .ensures) ∙ c .if4 .left) }, sym (c .before .before .before .roll-dated .ensures) ∙ not-false _ (c .before .before .if3 .left))
+-- the two dates are in order
+span : (c : tie.Else4) → Span (begun (c .before .before .before) .args .start) (begun (c .before .before .before) .args .end)
+span c =
+    let e = c .before .before .before in
+    record { first = starts e; last = ends e; order = omega (arith, c .before .before .number-of .ensures, c .before .number-of2 .ensures) }
+
+by-rule-requires : tie.Need-by-rule-requires
+by-rule-requires c κs =
+    let e = c .before .before .before in
+    (span c, rolls e, ap₂ (λ (a b : ℕ). pos (a - b)) (c .before .number-of2 .ensures) (c .before .before .number-of .ensures) ∙ sym (diff-pos (diff-of _ _) (span c .order)))
 
 returns-5 : tie.Need-returns-5
-unfolding yearFraction
 returns-5 c =
-    let s : tie.Start = c .before .before .before .before .before .before .before .before .before in
-    promised (s .args .rule) (s .args .start) (s .args .end) (s .args .x) _ (rw (sym (c .before .before .before .before .before .before .before .before .is-date .ensures) ∙ not-false _ (c .before .before .before .before .before .before .before .if1 .left), sym (c .before .before .before .before .before .before .is-date2 .ensures) ∙ not-false _ (c .before .before .before .before .before .if2 .left), sym (c .before .before .before .before .roll-dated .ensures) ∙ not-false _ (c .before .before .before .if3 .left), sym (c .before .before .is-before .ensures) ∙ c .before .if4 .left) (c .fraction-judged .ensures))
+    let e = c .before .before .before .before in
+    let s = begun e in
+    promised (s .args .rule) (s .args .start) (s .args .end) (s .args .x) _ (c .by-rule .ensures ∙ sym (span-fraction inBits (s .args .rule) (s .args .start) (s .args .end) (s .args .x) (span (c .before)) (rolls e)))
 
 pub year-fraction-spec : {M : Type 1} → statement M
 year-fraction-spec =
@@ -67,7 +99,8 @@ year-fraction-spec =
     returns-2
     roll-dated-requires
     returns-3
-    is-before-requires
+    number-of-requires
+    number-of-requires-2
     returns-4
-    fraction-judged-requires
+    by-rule-requires
     returns-5)

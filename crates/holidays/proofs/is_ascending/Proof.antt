@@ -1,41 +1,31 @@
--- `holidays::is_ascending` meets its contract: what is left of the table decides. The measure is what is left of its length.
+-- `holidays::is_ascending` meets its contract: what was good so far, the last day and what is left of the table decide. The measure is what is left of its length.
 -- Assumes nothing.
-use Prim.Native.Nat.{_-_, _≤_, zero-le}
-use mathlib.Core.Path.{_≡_, refl, sym}
+use Prim.Native.Nat.{_+_, _-_, _≤_, zero-le}
+use mathlib.Core.Path.{_≡_, refl}
+use mathlib.Core.Logic.{⊎-elim}
 use native.Mathlib.Omega.{arith}
 use lib.ListN.{length, drop}
+use lib.Dec.{leb}
+use Rattle.paper.specs.Outcome.{both}
 use Rattle.holidays.specs.Table.{ascendsFrom, ascending}
-use Rattle.holidays.proofs.Table.{too-early, too-late, passed, all-passed}
+use Rattle.holidays.proofs.Table.{not-later, later, past-the-end, within-the-end}
 use Rattle.holidays.proofs.is_ascending.Statement.{statement}
 use Rattle.holidays.proofs.is_ascending.Tie as tie
 
 abbrev Inv-loop : tie.InvT-loop
-Inv-loop table low₀ i₀ low i = (i ≤ length table) × (low ≤ 3652060) × (ascending table ≡ ascendsFrom low (drop i table))
+Inv-loop table good₀ last₀ i₀ good last i = (i ≤ length table) × (ascending table ≡ both good (both (leb last 3652059) (ascendsFrom (last + 1) (drop i table))))
 
 abbrev μ-loop : tie.MeasureT-loop
-μ-loop table low₀ i₀ low i = length table - i
+μ-loop table good₀ last₀ i₀ good last i = length table - i
 
 loop-holds : tie.Need-loop-holds Inv-loop μ-loop
-loop-holds c = (zero-le, omega arith, refl)
+loop-holds c = (zero-le, refl)
 
 mul-day : tie.Need-mul-day Inv-loop μ-loop
 mul-day c = omega arith
 
 shared-slice-read-day : tie.Need-shared-slice-read-day Inv-loop μ-loop
 shared-slice-read-day c = omega arith
-
-returns : tie.Need-returns Inv-loop μ-loop
-returns c =
-    let l = c .before .before .before .loop in
-    sym (too-early (c .before .before .before .before .args .table .now) (l .low) (l .i) (l .inv .2) (c .before .before .loop-test .taken) (c .if1 .taken))
-
-returns-2 : tie.Need-returns-2 Inv-loop μ-loop
-returns-2 c =
-    let l = c .before .before .before .before .loop in
-    sym (too-late (c .before .before .before .before .before .args .table .now) (l .low) (l .i) (l .inv .2) (c .before .before .before .loop-test .taken) (c .before .if1 .left) (c .if2 .taken))
-
-add-low : tie.Need-add-low Inv-loop μ-loop
-add-low c = omega arith
 
 add-i : tie.Need-add-i Inv-loop μ-loop
 add-i c = omega arith
@@ -45,13 +35,24 @@ loop-less c = omega arith
 
 loop-again : tie.Need-loop-again Inv-loop μ-loop
 loop-again c =
-    let l = c .before .before .before .before .loop in
-    (omega arith, omega arith, passed (c .before .before .before .before .before .args .table .now) (l .low) (l .i) (l .inv .2) (c .before .before .before .loop-test .taken) (c .before .if1 .left) (c .if2 .left))
+    let l = c .before .before .before .loop in
+    let t = c .before .before .before .before .args .table .now in (
+      omega arith,
+      ⊎-elim
+          (λ w. rw (w .1) (not-later t (l .good) (l .last) (l .i) (l .inv .1) (c .before .before .loop-test .taken) (w .0 .taken)))
+          (λ w. rw (w .1) (later t (l .good) (l .last) (l .i) (l .inv .1) (c .before .before .loop-test .taken) (w .0 .left)))
+          (c .if1 .came),
+    )
 
-returns-3 : tie.Need-returns-3 Inv-loop μ-loop
-returns-3 c =
-    let l = c .before .loop in
-    sym (all-passed (c .before .before .args .table .now) (l .low) (l .i) (l .inv .2) (c .loop-test .left))
+returns : tie.Need-returns Inv-loop μ-loop
+returns c =
+    let l = c .before .before .loop in
+    past-the-end (c .before .before .before .args .table .now) (l .good) (l .last) (l .i) (l .inv .1) (c .before .loop-test .left) (c .if2 .taken)
+
+returns-2 : tie.Need-returns-2 Inv-loop μ-loop
+returns-2 c =
+    let l = c .before .before .loop in
+    within-the-end (c .before .before .before .args .table .now) (l .good) (l .last) (l .i) (l .inv .1) (c .before .loop-test .left) (c .if2 .left)
 
 pub is-ascending-spec : {M : Type 1} → statement M
 is-ascending-spec =
@@ -62,10 +63,8 @@ is-ascending-spec =
     loop-holds
     mul-day
     shared-slice-read-day
-    returns
-    returns-2
-    add-low
     add-i
     loop-less
     loop-again
-    returns-3)
+    returns
+    returns-2)

@@ -3,13 +3,14 @@
     compare.py ANSWERS ORACLE COUNT SEED
 
 ANSWERS is the command of the Rattle program `answers`, ORACLE the original behind its line protocol. The last line printed is
-'COUNT queries, K explained, 0 unexplained', and the exit status is 0 only then.
+'COUNT queries, K explained, 0 unexplained', and the exit status is 0 only then, and only where every entry point of docs/CONTRACTS.md is asked.
 """
 import itertools
 import multiprocessing
 import os
 import sys
 
+import asked
 import differences
 import paper
 import questions
@@ -70,11 +71,11 @@ SETS = (
 def block(task):
     kind, first, last, stride, seed = task
     if kind is None:
-        asked = list(questions.random_questions(last - first, seed))
+        made = list(asked.random_questions(last - first, seed))
     else:
         ask = SETS[kind][1]
-        asked = [ask(k) for k in range(first, last, stride)]
-    return sides.compare(ANSWERS, ORACLE, asked)
+        made = [ask(k) for k in range(first, last, stride)]
+    return sides.compare(ANSWERS, ORACLE, made)
 
 
 def tasks(count, seed):
@@ -107,9 +108,12 @@ def main():
         print("%-48s %10d" % (rule, times))
     for text in total.unexplained[:40]:
         print("UNEXPLAINED", text)
+    missing = asked.not_asked()
+    if missing:
+        print("NOT ASKED", *missing)
     explained = sum(total.rules.values())
     print("%d queries, %d explained, %d unexplained" % (sum(total.asked.values()), explained, len(total.unexplained)))
-    return 1 if total.unexplained or sum(total.asked.values()) != count else 0
+    return 1 if missing or total.unexplained or sum(total.asked.values()) != count else 0
 
 
 if __name__ == "__main__":

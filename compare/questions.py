@@ -690,10 +690,23 @@ def count_of(n, table):
         return 3
 
 
-def rolled(name, verb, written_flow):
+def many_flows(m, n):
+    """As many flows as a rollout keeps, 256, and some more or less; and as the room for records has, 300."""
+    month, day = n["coupon"][1], min(n["coupon"][0], 28)
+    n["issue"], n["period"] = (m.r.randint(1900, 2100), month, 1), (1, "M")
+    n["coupon"] = (day, month % 12 + 1)
+    n["maturity"] = paper.add_months((*n["issue"][:2], day), m.pick(254, 255, 256, 257, 298, 299, 300, m.r.randint(250, 320)))
+
+
+def rolled(name, verb, written_flow, most):
+    """`most` places are there; where more are asked for, that many are lent."""
+
     def make(m):
         n, position, table = m.rollable(), m.position(), m.table()
-        places = 2000 if m.chance(0.8) else m.pick(0, 1, count_of(n, table), max(0, count_of(n, table) - 1))
+        if m.chance(0.03) and 1 <= n["coupon"][1] <= 12 and n["coupon"][0] > 0:
+            many_flows(m, n)
+        places = most if m.chance(0.8) else m.pick(0, 1, count_of(n, table), max(0, count_of(n, table) - 1))
+        places = min(places, most)
 
         def ask(wrap=False):
             flows = paper.rollout(n, position, table, places, wrap)
@@ -814,13 +827,7 @@ RANDOM = [
     (6, q_read_coupon_date), (2, q_new_coupon_date), (1, q_write_coupon_date), (1, q_convention_of), (12, q_year_fraction), (5, q_round2digits), (1, q_aggregatable),
     (4, q_fuzzy), (2, q_write_date), (2, q_write_amount), (3, q_write_cash_flow), (1, q_cash_flow_length), (4, q_write_decimal), (3, q_discount_factor), (4, q_discount_cash_flow),
     (2, stream("discount_listed_flows", 46)), (2, after("flows_after_listed", 47, listed_flow)), (1, q_check_note), (1, q_first_coupon_end),
-    (3, rolled("rollout_flows", 50, lambda f: "%d:%s" % (paper.serial(f[0]), bits(f[2])))), (5, q_accrued_interest), (1, q_read_note), (1, q_write_note), (1, q_list_note),
-    (1, q_read_u32), (2, q_read_i32),
+    (3, rolled("rollout_flows", 50, lambda f: "%d:%s" % (paper.serial(f[0]), bits(f[2])), 2000)), (5, q_accrued_interest), (1, q_read_note), (1, q_write_note), (1, q_list_note),
+    (1, q_read_u32), (2, q_read_i32), (2, stream("discount_cash_flow_stream", 57)), (2, after("get_cash_flows_after", 58, record_flow)),
+    (3, rolled("rollout_cash_flows", 59, record_flow, 300)),
 ]
-
-
-def random_questions(count, seed):
-    m = Maker(seed)
-    makers = [q for weight, q in RANDOM for _ in range(weight)]
-    for _ in range(count):
-        yield m.r.choice(makers)(m)

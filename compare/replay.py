@@ -10,8 +10,8 @@ import collections
 import re
 import sys
 
+import asked
 import differences
-import questions
 import rules
 import sides
 
@@ -33,8 +33,8 @@ def main():
     oracle, stdin, stdout = sys.argv[1:]
     taken, count, names = [], collections.Counter(), collections.Counter()
     for first in range(0, MADE, 20000):
-        asked = [q for q in questions.random_questions(20000, "replay/%d" % first) if q.line is not None and len(q.record) <= MOST_RECORD]
-        for q, text in zip(asked, sides.rust(oracle, [q.line for q in asked])):
+        made = [q for q in asked.random_questions(20000, "replay/%d" % first) if q.line is not None and len(q.record) <= MOST_RECORD]
+        for q, text in zip(made, sides.rust(oracle, [q.line for q in made])):
             said = rules.in_our_words(q.name, text)
             if said is None or said not in (q.expected, q.expected.replace(" kept", "")):
                 continue

@@ -34,8 +34,6 @@ def flow_list(name, text):
         day, currency = paper.serial(t), c.encode()
         if name == "rollout_flows":
             out.append("%d:%s" % (day, x))
-        elif name == "rollout_cash_flows":
-            out.append("%d-%d-%d:%s" % (*t, x))
         elif name == "flows_after_listed":
             out.append("%d:%d:%s" % (day, int.from_bytes(currency, "big"), x))
         else:
@@ -48,9 +46,12 @@ def date_word(text):
     return "%d-%d-%d" % (int(year), int(month), int(day))
 
 
-DATES = ("date_of", "add_months", "add_years", "add_days", "adjust_date", "add_to", "sub_from", "add_to_with", "sub_from_with")
+DATES = ("date_of", "date_on", "add_months", "add_years", "add_days", "adjust_date", "add_to", "sub_from", "add_to_with", "sub_from_with")
 DAYS = ("next_bday", "prev_bday", "bdays_later", "bdays_earlier")
 TEXTS = ("write_date", "write_cash_flow", "write_decimal", "write_amount", "write_period", "list_note")
+NUMBERS_OF_PERIODS = ("signed_length", "write_u32", "write_i32")
+LENGTHS = ("signed_length", "decimal::decimal_length", "amount_length")
+AMOUNTS = {"interest": 2, "coupon_amount": 2, "nominal": 3}
 LISTS = ("rollout_flows", "rollout_cash_flows", "flows_after_listed", "get_cash_flows_after")
 
 
@@ -68,7 +69,13 @@ def in_our_words(name, text):
     if name in DAYS:
         year, month, day = map(int, text.rsplit("-", 2))
         return "ok %d" % paper.serial((year, month, day)) if year > 0 else "ok before year 1"
-    if name in TEXTS:
+    if name in NUMBERS_OF_PERIODS:
+        text = text[3:-1]
+    if name in LENGTHS:
+        return "ok %d" % (len(text) - (11 if name == "amount_length" else 0))
+    if name in AMOUNTS:
+        return "ok " + text.split(" ")[AMOUNTS[name]].rsplit(":", 1)[1]
+    if name in TEXTS or name in NUMBERS_OF_PERIODS:
         if name == "write_amount":
             text = text[11:]
         if name == "write_period":
@@ -83,7 +90,7 @@ def in_our_words(name, text):
         return "ok %d %d" % (int(text[3:-1]), paper.UNITS.index(text[-1]))
     if name == "read_i32":
         return "ok %d" % int(text[3:-1])
-    if name == "fuzzy_cash_flows_cmp_eq":
+    if name in ("fuzzy_cash_flows_cmp_eq", "is_same_currency"):
         return "ok 1" if text == "yes" else "ok 0"
     return text if text.startswith("ok ") else "ok " + text
 
@@ -109,7 +116,7 @@ def explain(q, rust):
     """The rule by which the Rust's answer may differ from document 01's, or None."""
     name, expected = q.name, q.expected.replace(" kept", "")
     given = expected.startswith("ok")
-    if name.startswith("discount_listed") and rust == "refused 17" and not_held(q.line):
+    if name in ("discount_listed_flows", "discount_cash_flow_stream") and rust == "refused 17" and not_held(q.line):
         return "currency: the Rust cannot hold it"
     number = 0 if given else int(expected.split(" ")[1])
     if given:
@@ -127,7 +134,7 @@ def explain(q, rust):
         return "start after end"
     if number == 15:
         return "limits of numbers"
-    if number == 17 and (name in NOTES or name in SIMPLE or name in TEXTS):
+    if number == 17 and (name in NOTES or name in SIMPLE or name in TEXTS or name in LENGTHS):
         return "currency: lower case is taken" if rust.startswith("ok") else "currency: another refusal comes first"
     if number == 4 and name in ("sub_from", "sub_from_with") and q.about[0][0] == LEAST:
         return "least number negated"

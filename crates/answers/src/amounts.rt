@@ -18,7 +18,7 @@ use rates::FlatRate;
 
 fn roll_date(f: &[u8], at: usize) -> RollDate {
     let f = fields::rest(f, at);
-    if fields::byte(f, 0) == 1 {
+    if fields::yes(f, 0) {
         return RollDate::Date(fields::date(f, 1));
     }
     RollDate::Absent
@@ -26,7 +26,7 @@ fn roll_date(f: &[u8], at: usize) -> RollDate {
 
 fn roll_period(f: &[u8], at: usize) -> RollPeriod {
     let f = fields::rest(f, at);
-    if fields::byte(f, 0) == 1 {
+    if fields::yes(f, 0) {
         return RollPeriod::Period(fields::period(f, 1));
     }
     RollPeriod::Absent
@@ -59,7 +59,7 @@ fn of_pairs(verb: u8, f: &[u8]) -> Told {
 }
 
 // A rate is the first 12 bytes, and today the 12 that follow.
-fn flat_rate(f: &[u8]) -> FlatRate {
+pub(crate) fn flat_rate(f: &[u8]) -> FlatRate {
     FlatRate {
         rate: fields::float(f, 0),
         day_count_conv: fields::convention(f, 8),
@@ -96,7 +96,7 @@ fn currency_number(c: Currency) -> u32 {
     65536 * (c.first as u32) + 256 * (c.second as u32) + (c.third as u32)
 }
 
-fn flow_in(f: &[u8], i: usize) -> CashFlow
+pub(crate) fn flow_in(f: &[u8], i: usize) -> CashFlow
     requires { ⌜ i ≤ 65535 ⌝ }
 {
     fields::flow(f, 23 * i + 2)

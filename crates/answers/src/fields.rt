@@ -20,6 +20,11 @@ pub(crate) fn byte(f: &[u8], at: usize) -> u8 {
     if at < f.len() { f[at] } else { 0 }
 }
 
+// Whether a byte is 1.
+pub(crate) fn yes(f: &[u8], at: usize) -> bool {
+    byte(f, at) == 1
+}
+
 // What follows the first bytes.
 pub(crate) fn rest(f: &[u8], at: usize) -> &[u8] {
     if f.len() < at {
@@ -215,7 +220,7 @@ pub(crate) fn coupon(f: &[u8], at: usize) -> CouponDate {
     }
 }
 
-fn note_number(f: &[u8]) -> NoteNumber {
+pub(crate) fn note_number(f: &[u8]) -> NoteNumber {
     NoteNumber {
         count: word(f, 0),
         digits: long(f, 4),

@@ -6,6 +6,8 @@ mod fields;
 mod lent;
 mod line;
 mod notes;
+mod parts;
+mod records;
 mod texts;
 
 use libc::STDIN_FILENO;
@@ -17,21 +19,24 @@ fn told(verb: u8, f: &[u8]) -> Told {
     match verb {
         1..=15 => days::told(verb, f),
         16..=22 | 29 | 30 => business::told(verb, f),
-        23 | 25..=28 | 31 | 32 | 34 | 43 | 55 | 56 => texts::told(verb, f),
+        23 | 25..=28 | 31 | 32 | 34 | 43 | 55 | 56 | 60 | 70 | 83 => texts::told(verb, f),
         35..=38 | 44..=46 => amounts::told(verb, f),
-        48 | 49 | 51 => notes::told(verb, f),
+        48 | 49 | 51 | 79 => notes::told(verb, f),
+        57 => records::told(f),
+        61..=64 | 69 | 71..=78 | 80..=82 => parts::told(verb, f),
         _ => Told::Refused(0),
     }
 }
 
 fn words(verb: u8, f: &[u8], out: &mut [u8], at: usize) -> usize {
     match verb {
-        24 | 33 | 39..=42 => texts::put_written(verb, f, out, at),
+        24 | 33 | 39..=42 | 65..=68 => texts::put_written(verb, f, out, at),
         47 => amounts::put_flows_after(f, out, at),
-        50 => notes::put_rollout(f, out, at),
+        50 | 59 => notes::put_rollout(verb, f, out, at),
         52 => notes::put_read_note(f, out, at),
         53 => notes::put_written_note(f, out, at),
         54 => notes::put_listing(f, out, at),
+        58 => records::put_flows_after(f, out, at),
         _ => line::put_told(told(verb, f), out, at),
     }
 }

@@ -1,8 +1,9 @@
-// Verbs 48 to 54: notes, their flows and their packed form.
+// Verbs 48 to 54, 59 and 79: notes, their flows and their packed form.
 use crate::fields;
 use crate::lent;
 use crate::line;
 use crate::line::Told;
+use crate::records;
 use bond::Note;
 use bond::NoteAnswer;
 use cash_flow::FlowsAnswer;
@@ -23,6 +24,7 @@ pub(crate) fn told(verb: u8, f: &[u8]) -> Told {
     match verb {
         48 => checked(bond::check_note(note)),
         49 => line::date(bond::first_coupon_end(note)),
+        79 => checked(bond::check_note_with(note, fields::yes(f, 66), fields::yes(f, 67))),
         _ => line::fraction(accrued_interest::accrued_interest(note, fields::date(f, 66))),
     }
 }
@@ -85,10 +87,14 @@ fn rolled_out(f: &[u8], table: &[u32], out: &mut [u8], at: usize) -> usize {
     rolled(answer, &days, &amounts, out, at)
 }
 
-pub(crate) fn put_rollout(f: &[u8], out: &mut [u8], at: usize) -> usize {
+pub(crate) fn put_rollout(verb: u8, f: &[u8], out: &mut [u8], at: usize) -> usize {
     let mut table = [0u32; 4200];
     let n = fields::table(fields::rest(f, 78), &mut table);
-    rolled_out(f, lent::first_words(&table, n), out, at)
+    let days = lent::first_words(&table, n);
+    if verb == 59 {
+        return records::put_rolled(f, days, out, at);
+    }
+    rolled_out(f, days, out, at)
 }
 
 fn adjustment_code(rule: DayAdjust) -> u32 {
@@ -195,8 +201,13 @@ fn list(f: &[u8], room: &mut [u8]) -> LengthAnswer {
     note_listing::list_note(fields::rest(f, 4), &mut room[..n])
 }
 
+// Made by a call, so that the proof of what lends it does not write its bytes out.
+fn listing_room() -> [u8; 200000] {
+    [lent::BYTE; 200000]
+}
+
 pub(crate) fn put_listing(f: &[u8], out: &mut [u8], at: usize) -> usize {
-    let mut room = [lent::BYTE; 200000];
+    let mut room = listing_room();
     let answer = list(f, &mut room);
     line::put_written(answer, &room, out, at)
 }

@@ -1,4 +1,4 @@
-// Verbs 23 to 28, 31 to 34, 39 to 43, 55 and 56: what is read from text or written as text.
+// Verbs 23 to 28, 31 to 34, 39 to 43, 55, 56, 60, 65 to 68, 70 and 83: what is read from text or written as text.
 use crate::fields;
 use crate::lent;
 use crate::line;
@@ -64,8 +64,21 @@ pub(crate) fn told(verb: u8, f: &[u8]) -> Told {
         43 => length(cash_flow_text::cash_flow_length(fields::flow(f, 0))),
         55 => number(reading::read_u32(f, paper::INVALID_PERIOD)),
         56 => signed(reading::read_i32(f, paper::INVALID_PERIOD)),
+        60 => number(reading::read_decimal(
+            fields::rest(f, 8),
+            fields::word(f, 0),
+            fields::word(f, 4),
+        )),
+        70 => length(decimal::decimal_length(fields::float(f, 0))),
+        83 => length(cash_flow_text::amount_length(fields::float(f, 0), fields::currency(f, 8))),
         _ => of_periods(verb, f),
     }
+}
+
+// Every byte of the room is written.
+fn scaled(f: &[u8], room: &mut [u8]) -> LengthAnswer {
+    big_digits::put_scaled(fields::long(f, 0), fields::places(f, 8), room);
+    LengthAnswer::Length(room.len())
 }
 
 fn write(verb: u8, f: &[u8], room: &mut [u8]) -> LengthAnswer {
@@ -75,6 +88,10 @@ fn write(verb: u8, f: &[u8], room: &mut [u8]) -> LengthAnswer {
         39 => date_text::write_date(fields::date(f, 0), room),
         40 => cash_flow_text::write_amount(fields::float(f, 0), fields::currency(f, 8), room),
         41 => cash_flow_text::write_cash_flow(fields::flow(f, 0), room),
+        65 => text::write_u32(fields::word(f, 0), room),
+        66 => text::write_i32(fields::signed(f, 0), room),
+        67 => text::write_padded(fields::word(f, 0), fields::places(f, 4), room),
+        68 => scaled(f, room),
         _ => decimal::write_decimal(fields::float(f, 0), room),
     }
 }
@@ -91,6 +108,8 @@ fn places(verb: u8, f: &[u8]) -> usize {
         39 => fields::places(f, 12),
         40 => fields::places(f, 11),
         41 => fields::places(f, 23),
+        65 | 66 => fields::places(f, 4),
+        68 => fields::places(f, 12),
         _ => fields::places(f, 8),
     }
 }

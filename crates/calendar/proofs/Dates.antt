@@ -1,8 +1,8 @@
 -- Dates and serial days: the bounds of a date, and that each is found again from the other.
 -- Assumes nothing.
 use Prim.Native.Nat.{ℕ, zero, suc, _+_, _-_, _*_, _/_, _%_, _≤_, _<_}
-use mathlib.Core.Path.{_≡_, sym, _∙_, ap}
-use mathlib.Core.Bool.{true}
+use mathlib.Core.Path.{_≡_, refl, sym, _∙_, ap}
+use mathlib.Core.Bool.{Bool, true, false}
 use native.Mathlib.Omega.{arith}
 use native.Mathlib.Numerals.{add-one}
 use borrow.Author.Tests.{le-leb, leb-true}
@@ -45,6 +45,13 @@ date-is t h =
       le-leb 1 (t .day) (h .day-from),
       le-leb (t .day) (monthLength (t .year) (t .month)) (h .day-to),
     )
+
+pub no-date : (t : Date) → (IsDate t → ⊥) → false ≡ isDate t
+no-date t h = by (isDate t) refl
+  where
+    by : (b : Bool) → isDate t ≡ b → false ≡ isDate t
+    by true e = absurd (h (date-yes t e))
+    by false e = sym e
 
 pub day-yes : (d : Day) → isDay d ≡ true → (1 ≤ d .0) × (d .0 ≤ 3652059)
 unfolding isDay

@@ -1,7 +1,7 @@
 // The calendar of document 01: serial days and dates, each found from the other.
 ghost use mathlib.Core.Path.{_≡_};
 ghost use mathlib.Core.Bool.{true};
-ghost use Prim.Native.Nat.{_≤_};
+ghost use Prim.Native.Nat.{_+_, _-_, _*_, _/_, _≤_};
 ghost use Rattle.gregorian.specs.Gregorian.{yearLength};
 ghost use Rattle.calendar.specs.Dates.{isDate, isDay, dayNumber, yearOf, inYear, theDate, isBefore, isSame};
 ghost use Rattle.calendar.specs.Answers.{DayOfPromise, DateOfPromise, WeekdayPromise, DaysBetweenPromise, DayAfterPromise};
@@ -57,6 +57,16 @@ pub fn is_date(t: Date) -> bool
     if t.day < 1 {
         return false;
     }
+    if t.month < 1 {
+        return false;
+    }
+    if 12 < t.month {
+        return false;
+    }
+    // Every month has 28 days.
+    if t.day <= 28 {
+        return true;
+    }
     t.day <= gregorian::length_of_month(t.year, t.month)
 }
 
@@ -94,13 +104,24 @@ pub fn is_same(a: Date, b: Date) -> bool
     a.day == b.day
 }
 
-// Inner: the serial day of a date that is already judged.
+// The days of so many years, and of so many months from March on: a leap day ends such a year, so that no month asks for it.
+fn from_march(years: u32, months: u32) -> u32
+    requires { ⌜ (years ≤ 9999) × (months ≤ 11) ⌝ }
+    ensures { λ r. ⌜ r ≡ 365 * years + years / 4 - years / 100 + years / 400 + (153 * months + 2) / 5 ⌝ }
+{
+    let centuries = years / 100;
+    365 * years + years / 4 - centuries + centuries / 4 + (153 * months + 2) / 5
+}
+
+// Inner: the serial day of a date that is already judged. From March to the new year there are 306 days.
 pub fn number_of(t: Date) -> u32
     requires { ⌜ isDate t ≡ true ⌝ }
     ensures { λ r. ⌜ r ≡ dayNumber t ⌝ }
 {
-    let in_year = gregorian::days_before_month(t.year, t.month);
-    gregorian::days_before_year(t.year) + in_year + t.day
+    if t.month < 3 {
+        return from_march(t.year - 1, t.month + 9) + t.day - 306;
+    }
+    from_march(t.year, t.month - 3) + t.day - 306
 }
 
 pub fn day_of(t: Date) -> DayAnswer

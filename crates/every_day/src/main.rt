@@ -1,4 +1,4 @@
-// Every day of the calendar, held to a count kept day by day: its date, that date's serial day, and its weekday.
+// Every day of the calendar, held to a count kept day by day: its date, that date's serial day, the table's where a year begins, and its weekday.
 use calendar::Date;
 use calendar::DateAnswer;
 use calendar::Day;
@@ -97,6 +97,28 @@ fn has_date(n: u32, t: Date) -> bool {
     }
 }
 
+// Whether the year begins on a day, by the table.
+fn begins(year: u32, n: u32) -> bool {
+    if year < 1 {
+        return false;
+    }
+    if 9999 < year {
+        return false;
+    }
+    gregorian::first_of_year(year) == n
+}
+
+// A date of 1 January is the table's; of another nothing is asked of it.
+fn has_first(n: u32, t: Date) -> bool {
+    if 1 < t.month {
+        return true;
+    }
+    if 1 < t.day {
+        return true;
+    }
+    begins(t.year, n)
+}
+
 fn agrees(n: u32, c: Count) -> bool {
     let t = Date {
         year: c.year,
@@ -107,6 +129,9 @@ fn agrees(n: u32, c: Count) -> bool {
         return false;
     }
     if !has_day(t, n) {
+        return false;
+    }
+    if !has_first(n, t) {
         return false;
     }
     has_weekday(Day(n), c.weekday)
@@ -129,5 +154,8 @@ fn main() {
         n += 1;
     }
     io::print_decimal(STDOUT_FILENO, good as u64);
-    io::write_all(STDOUT_FILENO, b" days: date, day again and weekday agree\n");
+    io::write_all(
+        STDOUT_FILENO,
+        b" days: date, day again, first of year and weekday agree\n",
+    );
 }

@@ -1,6 +1,6 @@
 -- The months' lengths at each number, and the days of a year before each month.
 -- Assumes nothing.
-use Prim.Native.Nat.{ℕ, zero, suc, _+_, _-_, _*_, _≤_, _<_}
+use Prim.Native.Nat.{ℕ, zero, suc, _+_, _-_, _*_, _/_, _≤_, _<_, max}
 use mathlib.Core.Path.{_≡_, refl, sym, _∙_, ap}
 use mathlib.Core.Logic.{_⊎_, inl, inr}
 use mathlib.Core.Bool.{Bool, true, false}
@@ -157,6 +157,21 @@ late : (k : ℕ) → k < 11 → eqb (before (lengthIn false) (k + 3) + 1) (befor
 unfolding before lengthIn passes
 late = passes-at (λ k. eqb (before (lengthIn false) (k + 3) + 1) (before (lengthIn true) (k + 3))) 11 refl
 
+-- 367 days in twelve months, spread evenly, of which February lacks two
+unfoldable pub evenly : ℕ → ℕ
+evenly m = (367 * m - 362) / 12
+
+pub common-early : (m : ℕ) → m < 3 → evenly m ≡ before (lengthIn false) m
+unfolding before lengthIn passes evenly
+common-early m h = eqb-true (evenly m) (before (lengthIn false) m) (passes-at (λ (k : ℕ). eqb (evenly k) (before (lengthIn false) k)) 3 refl m h)
+
+pub common-late : (m : ℕ) → 3 ≤ m → m ≤ 13 → evenly m - 2 ≡ before (lengthIn false) m
+unfolding before lengthIn passes evenly
+common-late m l h =
+    let e : m - 3 + 3 ≡ m = omega arith in
+    rw e at (eqb-true (evenly (m - 3 + 3) - 2) (before (lengthIn false) (m - 3 + 3))
+    (passes-at (λ (k : ℕ). eqb (evenly (k + 3) - 2) (before (lengthIn false) (k + 3))) 11 refl (m - 3) (omega arith)))
+
 pub before-early : (y m : ℕ) → m < 3 → before (lengthIn false) m ≡ beforeMonth y m
 unfolding monthLength
 before-early y m h = eqb-true _ _ (early (leap y) m h)
@@ -184,3 +199,23 @@ wide = in-both (λ b k. leb (32 * suc k) (before (lengthIn b) (k + 3))) 11 refl 
 pub begins-from : (y k : ℕ) → k < 11 → 32 * suc k ≤ beforeMonth y (k + 3)
 unfolding monthLength
 begins-from y k h = leb-true (32 * suc k) (before (lengthIn (leap y)) (k + 3)) (wide (leap y) k h)
+
+-- counted from March the months follow one rule, and from March to the new year there are 306 days
+from-march-in : (b : Bool) (k : ℕ) → k < 11 → eqb (before (lengthIn b) (k + 3) + 306) (before (lengthIn b) 13 + (153 * k + 2) / 5) ≡ true
+unfolding before lengthIn passes
+from-march-in = in-both (λ b k. eqb (before (lengthIn b) (k + 3) + 306) (before (lengthIn b) 13 + (153 * k + 2) / 5)) 11 refl refl
+
+to-march-in : (b : Bool) (k : ℕ) → k < 3 → eqb (before (lengthIn b) k + 306) (max 306 ((153 * (k + 9) + 2) / 5)) ≡ true
+unfolding before lengthIn passes
+to-march-in = in-both (λ b k. eqb (before (lengthIn b) k + 306) (max 306 ((153 * (k + 9) + 2) / 5))) 3 refl refl
+
+pub from-march : (y m : ℕ) → 1 ≤ y → 3 ≤ m → m ≤ 13 → beforeMonth y m + 306 ≡ yearLength y + (153 * (m - 3) + 2) / 5
+unfolding monthLength
+from-march y m g l h =
+    let e : m - 3 + 3 ≡ m = omega arith in
+    (rw e at (eqb-true (before (lengthIn (leap y)) (m - 3 + 3) + 306) (before (lengthIn (leap y)) 13 + (153 * (m - 3) + 2) / 5) (from-march-in (leap y) (m - 3) (omega arith))))
+    ∙ ap (λ (n : ℕ). n + (153 * (m - 3) + 2) / 5) (year-of-months y g)
+
+pub to-march : (y m : ℕ) → 1 ≤ m → m < 3 → beforeMonth y m + 306 ≡ (153 * (m + 9) + 2) / 5
+unfolding monthLength
+to-march y m l h = omega (arith, eqb-true (before (lengthIn (leap y)) m + 306) (max 306 ((153 * (m + 9) + 2) / 5)) (to-march-in (leap y) m h))

@@ -1,15 +1,16 @@
 -- The Gregorian cycle: 400 years of 146097 days, over and over.
 -- Assumes nothing.
-use Prim.Native.Nat.{ℕ, zero, suc, _+_, _-_, _*_, _/_, _%_, _≤_}
-use mathlib.Core.Path.{_≡_, refl, _∙_, ap}
+use Prim.Native.Nat.{ℕ, zero, suc, _+_, _-_, _*_, _/_, _%_, _≤_, _<_}
+use mathlib.Core.Path.{_≡_, refl, sym, _∙_, ap}
 use mathlib.Core.Bool.{Bool, true, false}
 use native.Mathlib.Omega.{arith}
 use native.Mathlib.Nat.{add-suc}
+use native.Mathlib.Decide.{decLt}
 use lib.Dec.{eqb}
 use borrow.Author.Tests.{eqb-true, eqb-false}
 use Rattle.paper.specs.Outcome.{pick}
 use Rattle.gregorian.specs.Gregorian.{leap, yearLength, before, beforeYear}
-use Rattle.gregorian.proofs.Counting.{before-suc}
+use Rattle.gregorian.proofs.Counting.{before-suc, before-mono}
 
 pub leap-cycle : (q r : ℕ) → leap (400 * q + r) ≡ leap r
 unfolding leap
@@ -109,3 +110,30 @@ by-rule-of-leaps y h =
     let n = y - 1 in
     let e : suc n ≡ y = omega arith in
     taken-off (beforeYear y) n (n / 4) (n / 100) (n / 400) (rw e at (closed n)) (omega arith)
+
+-- the year of the e-th day, of 365 days each: that one, or that before it
+pub in-365 : (n e : ℕ) → e ≤ 365 * n + 365 → e ≤ 146097 → beforeYear (suc n) < e → (1 ≤ suc n) × (suc n ≤ 400) × (beforeYear (suc n) < e) × (e ≤ beforeYear (suc (suc n)))
+in-365 n e u m h = (omega arith, by (decLt n 400), h, omega (arith, closed (suc n)))
+  where
+    by : Dec (n < 400) → suc n ≤ 400
+    by (yes l) = omega arith
+    by (no l) = absurd (omega (arith, whole, before-mono yearLength 401 (suc n) (omega arith)))
+
+pub before-365 : (n e : ℕ) → 365 * n < e → e ≤ 146097 → e ≤ beforeYear (suc n) → (1 ≤ n) × (n ≤ 400) × (beforeYear n < e) × (e ≤ beforeYear (suc n))
+before-365 zero e l m h = absurd (omega (arith, before-one))
+before-365 (suc n) e l m h = (omega arith, omega arith, omega (arith, closed n), h)
+
+-- of the hundreds those that 16 divides are those that 400 does
+pub hundreds : (y : ℕ) → y % 100 ≡ 0 → eqb (y % 16) 0 ≡ eqb (y % 400) 0
+hundreds y h = by (eqb (y % 16) 0) (eqb (y % 400) 0) refl refl
+  where
+    by : (b c : Bool) → eqb (y % 16) 0 ≡ b → eqb (y % 400) 0 ≡ c → eqb (y % 16) 0 ≡ eqb (y % 400) 0
+    by true true p q = p ∙ sym q
+    by false false p q = p ∙ sym q
+    by true false p q =
+        let b = y / 16 in
+        let c = y / 100 in
+        let d : 25 * c ≡ 4 * b = omega (arith, eqb-true (y % 16) 0 p) in
+        let k : y ≡ 400 * (b - 6 * c) = omega arith in
+        absurd (omega (arith, eqb-false (y % 400) 0 q))
+    by false true p q = absurd (omega (arith, eqb-false (y % 16) 0 p, eqb-true (y % 400) 0 q))

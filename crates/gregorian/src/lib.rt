@@ -409,29 +409,12 @@ const FIRST_OF_YEAR: [u32; 400] = [
     145732,
 ];
 
-// The days of a common year before each month; month 13 stands for the next year's first.
-const BEFORE_MONTH: [u32; 14] = [
-    0,
-    0,
-    31,
-    59,
-    90,
-    120,
-    151,
-    181,
-    212,
-    243,
-    273,
-    304,
-    334,
-    365,
-];
-
 pub fn is_leap(year: u32) -> bool
     ensures { λ r. ⌜ r ≡ leap year ⌝ }
 {
+    // Of the hundreds those that 16 divides are those that 400 does, and 16 takes no division.
     if year % 100 == 0 {
-        year % 400 == 0
+        year % 16 == 0
     } else {
         year % 4 == 0
     }
@@ -460,32 +443,6 @@ pub fn length_of_year(year: u32) -> u32
     if is_leap(year) { 366 } else { 365 }
 }
 
-// The whole table. Each call writes it out, so that a search takes it once and then reads it.
-fn first_of_years() -> [u32; 400]
-    ensures { λ r. ⌜ ((k : ℕ) → k < 400 → getD r k 0 ≡ beforeYear (suc k) + 1) ⌝ }
-{
-    FIRST_OF_YEAR
-}
-
-// Inner: the year that the e-th day of a cycle falls in, by halving.
-pub fn year_in_cycle(e: u32) -> u32
-    requires { ⌜ (1 ≤ e) × (e ≤ 146097) ⌝ }
-    ensures { λ r. ⌜ (1 ≤ r) × (r ≤ 400) × (beforeYear r < e) × (e ≤ beforeYear (suc r)) ⌝ }
-{
-    let first = first_of_years();
-    let mut lo: u32 = 0;
-    let mut hi: u32 = 400;
-    while lo + 1 < hi {
-        let mid = (lo + hi) / 2;
-        if first[mid as usize] <= e {
-            lo = mid;
-        } else {
-            hi = mid;
-        }
-    }
-    lo + 1
-}
-
 // Inner: the days before 1 January of a year of the calendar.
 pub fn days_before_year(year: u32) -> u32
     requires { ⌜ (1 ≤ year) × (year ≤ 9999) ⌝ }
@@ -495,17 +452,18 @@ pub fn days_before_year(year: u32) -> u32
     365 * past + past / 4 - past / 100 + past / 400
 }
 
-// The days of a common year before a month of it.
+// The days of a common year before a month of it: month for month 30 or 31, but February lacks two.
 fn common_before_month(month: u32) -> u32
-    requires { ⌜ month ≤ 13 ⌝ }
+    requires { ⌜ (1 ≤ month) × (month ≤ 13) ⌝ }
     ensures { λ r. ⌜ r ≡ before (lengthIn false) month ⌝ }
 {
-    BEFORE_MONTH[month as usize]
+    let even = (367 * month - 362) / 12;
+    if 2 < month { even - 2 } else { even }
 }
 
 // Inner: the days of a year before a month of it; month 13 stands for the next year's first.
 pub fn days_before_month(year: u32, month: u32) -> u32
-    requires { ⌜ month ≤ 13 ⌝ }
+    requires { ⌜ (1 ≤ month) × (month ≤ 13) ⌝ }
     ensures { λ r. ⌜ r ≡ beforeMonth year month ⌝ }
 {
     let common = common_before_month(month);
@@ -513,4 +471,34 @@ pub fn days_before_month(year: u32, month: u32) -> u32
         return common;
     }
     if is_leap(year) { common + 1 } else { common }
+}
+
+// Inner: the year that the e-th day of a cycle falls in: the one of years of 365 days, or that before it, since leap days take their room.
+pub fn year_in_cycle(e: u32) -> u32
+    requires { ⌜ (1 ≤ e) × (e ≤ 146097) ⌝ }
+    ensures { λ r. ⌜ (1 ≤ r) × (r ≤ 400) × (beforeYear r < e) × (e ≤ beforeYear (suc r)) ⌝ }
+{
+    let year = (e - 1) / 365 + 1;
+    if days_before_year(year) < e {
+        year
+    } else {
+        year - 1
+    }
+}
+
+// The whole table.
+fn first_of_years() -> [u32; 400]
+    ensures { λ r. ⌜ ((k : ℕ) → k < 400 → getD r k 0 ≡ beforeYear (suc k) + 1) ⌝ }
+{
+    FIRST_OF_YEAR
+}
+
+// Inner: the serial day of 1 January of a year of the calendar, by the table. Each call writes the table out, so what must be quick counts instead.
+pub fn first_of_year(year: u32) -> u32
+    requires { ⌜ (1 ≤ year) × (year ≤ 9999) ⌝ }
+    ensures { λ r. ⌜ r ≡ beforeYear year + 1 ⌝ }
+{
+    let first = first_of_years();
+    let past = year - 1;
+    past / 400 * 146097 + first[(past % 400) as usize]
 }

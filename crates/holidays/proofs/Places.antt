@@ -177,3 +177,47 @@ module _ {t : List ℕ} {n : ℕ} where
       by : (k : ℕ) → k < suc j → Dec (k < j) → getD t k 0 < n - 1
       by k l (yes g) = omega (arith, last, s .sorted k j g (omega (arith, s .within)))
       by k l (no g) = let i : k ≡ j = omega arith in omega (arith, last, ap (λ (x : ℕ). getD t x 0) i)
+
+-- a place that is not past the one sought: before it, all is before
+pub bracket-near : (t : List ℕ) (n i : ℕ) → ascending t ≡ true → i ≤ length t → getD (0 ∷ t) i 0 < n → Bracket t n i (length t)
+bracket-near t n zero a w h = bracket-whole t n a
+bracket-near t n (suc i) a w h =
+    let e : i + 1 ≡ suc i = omega arith in
+    rw e at (bracket-up (bracket-whole t n a) i zero-le (omega arith) h)
+
+-- past the end stands a 0, which is no day
+pub placed : (t : List ℕ) (n i : ℕ) → 1 ≤ n → getD t i 0 ≡ n → i < length t
+placed t n i d e = by (decLt i (length t))
+  where
+    by : Dec (i < length t) → i < length t
+    by (yes l) = l
+    by (no l) = absurd (omega (arith, List·getD-eq-default t 0 {n = i} (omega arith)))
+
+-- from the first holiday that is not before a day to the first after it
+module _ {t : List ℕ} {n i : ℕ} (s : Splits t n i) where
+  pub after-listed : i < length t → getD t i 0 ≡ n → Splits t (n + 1) (i + 1)
+  after-listed l e = record {
+    sorted = s .sorted;
+    within = omega arith;
+    before = λ k f. by k f (decLt k i);
+    after = λ k f g. omega (arith, s .sorted i k (omega arith) g);
+  }
+    where
+      by : (k : ℕ) → k < i + 1 → Dec (k < i) → getD t k 0 < n + 1
+      by k f (yes h) = omega (arith, s .before k h)
+      by k f (no h) = let q : k ≡ i = omega arith in rw q (omega arith)
+
+  pub after-unlisted : (getD t i 0 ≡ n → ⊥) → Splits t (n + 1) i
+  after-unlisted d = record {
+    sorted = s .sorted;
+    within = s .within;
+    before = λ k f. omega (arith, s .before k f);
+    after = λ k f g. by k f g (decLt i k);
+  }
+    where
+      by : (k : ℕ) → i ≤ k → k < length t → Dec (i < k) → n + 1 ≤ getD t k 0
+      by k f g (yes h) = omega (arith, s .sorted i k h g, s .after i (omega arith) (omega arith))
+      by k f g (no h) = let q : k ≡ i = omega arith in rw q (let m = s .after i (omega arith) (omega arith) in above (getD t i 0) m d)
+        where
+          above : (x : ℕ) → n ≤ x → (x ≡ n → ⊥) → n + 1 ≤ x
+          above x a b = omega arith

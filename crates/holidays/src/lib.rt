@@ -19,6 +19,9 @@ pub enum BusinessAnswer {
 
 const MOST_HOLIDAYS: usize = 4096;
 
+// No place of a table is near it.
+pub const NOWHERE: usize = 4097;
+
 const FIRST_DAY: u32 = 1;
 
 const LAST_DAY: u32 = 3652059;
@@ -61,8 +64,8 @@ fn is_weekend(n: u32) -> bool
     SATURDAY <= (n + 6) % 7 + 1
 }
 
-// The place of the first holiday that is not before a day, by halving.
-fn first_from(table: &[u32], n: u32) -> usize
+// Inner: the place of the first holiday that is not before a day, by halving.
+pub fn first_from(table: &[u32], n: u32) -> usize
     requires { ⌜ ascending (now table) ≡ true ⌝ }
     ensures { λ r. ⌜ Splits (now (table .entry)) n r ⌝ }
 {
@@ -92,6 +95,27 @@ fn holiday_before(table: &[u32], i: usize) -> u32
     ensures { λ r. ⌜ r ≡ getD (0 ∷ now (table .entry)) i 0 ⌝ }
 {
     if 0 < i { table[i - 1] } else { 0 }
+}
+
+// Inner: the same, from a place near it, where that is not past it: a rollout's days come in order, so that it searches once and then passes its holidays.
+pub fn first_near(table: &[u32], n: u32, near: usize) -> usize
+    requires { ⌜ ascending (now table) ≡ true ⌝ }
+    ensures { λ r. ⌜ Splits (now (table .entry)) n r ⌝ }
+{
+    if table.len() < near {
+        return first_from(table, n);
+    }
+    if n <= holiday_before(table, near) {
+        return first_from(table, n);
+    }
+    let mut i = near;
+    while i < table.len() {
+        if n <= table[i] {
+            return i;
+        }
+        i += 1;
+    }
+    i
 }
 
 // Day by day, with the next holiday alongside: over the part of the table that begins with the first holiday after n.
@@ -148,15 +172,14 @@ fn walk_back(part: &[u32], n: u32, k: u32) -> DayAnswer
     DayAnswer::Day(Day(at))
 }
 
-// Inner: of a day and holidays already judged, and with no limit to their number, so that a caller who asks often judges once.
-pub fn business_on(n: u32, table: &[u32]) -> bool
-    requires { ⌜ Judged n (now table) ⌝ }
+// Inner: of a day and holidays already judged, and with no limit to their number, so that a caller who asks often judges once; of the day's place among them too.
+pub fn business_at(n: u32, table: &[u32], i: usize) -> bool
+    requires { ⌜ (Judged n (now table)) × (Splits (now table) n i) ⌝ }
     ensures { λ r. ⌜ r ≡ isBusiness (now (table .entry)) n ⌝ }
 {
     if is_weekend(n) {
         return false;
     }
-    let i = first_from(table, n);
     holiday_at(table, i) != n
 }
 
@@ -178,20 +201,29 @@ pub fn earlier_from(n: u32, k: u32, table: &[u32]) -> DayAnswer
     walk_back(&table[..i], n, k)
 }
 
-// Inner: the next business day, of a day and holidays already judged.
-pub fn next_from(n: u32, table: &[u32]) -> DayAnswer
-    requires { ⌜ Judged n (now table) ⌝ }
-    ensures { λ r. ⌜ dayOutcome r ≡ nextFrom (now (table .entry)) n ⌝ }
+// The place of the first holiday after a day, from that of the first not before it.
+fn place_after(table: &[u32], n: u32, i: usize) -> usize
+    requires { ⌜ (Judged n (now table)) × (Splits (now table) n i) ⌝ }
+    ensures { λ r. ⌜ Splits (now (table .entry)) (n + 1) r ⌝ }
 {
-    later_from(n, 1, table)
+    if holiday_at(table, i) == n { i + 1 } else { i }
 }
 
-// Inner: the previous business day, of a day and holidays already judged.
-pub fn prev_from(n: u32, table: &[u32]) -> DayAnswer
-    requires { ⌜ Judged n (now table) ⌝ }
+// Inner: the next business day, of a day, its place among the holidays, and holidays already judged.
+pub fn next_at(n: u32, table: &[u32], i: usize) -> DayAnswer
+    requires { ⌜ (Judged n (now table)) × (Splits (now table) n i) ⌝ }
+    ensures { λ r. ⌜ dayOutcome r ≡ nextFrom (now (table .entry)) n ⌝ }
+{
+    let after = place_after(table, n, i);
+    walk_on(&table[after..], n, 1)
+}
+
+// Inner: the previous business day, of the same.
+pub fn prev_at(n: u32, table: &[u32], i: usize) -> DayAnswer
+    requires { ⌜ (Judged n (now table)) × (Splits (now table) n i) ⌝ }
     ensures { λ r. ⌜ dayOutcome r ≡ prevFrom (now (table .entry)) n ⌝ }
 {
-    earlier_from(n, 1, table)
+    walk_back(&table[..i], n, 1)
 }
 
 pub fn is_business_day(d: Day, table: &[u32]) -> BusinessAnswer
@@ -203,7 +235,8 @@ pub fn is_business_day(d: Day, table: &[u32]) -> BusinessAnswer
     if !is_table(table) {
         return BusinessAnswer::Refused(paper::BAD_HOLIDAY_TABLE);
     }
-    BusinessAnswer::Business(business_on(d.0, table))
+    let i = first_from(table, d.0);
+    BusinessAnswer::Business(business_at(d.0, table, i))
 }
 
 // k business days on; 0 of them stay on the day, a business day or not.

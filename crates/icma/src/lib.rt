@@ -5,7 +5,8 @@ ghost use Prim.Native.Nat.{_-_, _<_, _≤_};
 ghost use lib.IntN.{pos, _-ℤ_};
 ghost use lib.Signed.{ltZ};
 ghost use Rattle.calendar.specs.Dates.{isDate, dayNumber};
-ghost use Rattle.icma.specs.Walk.{walkOutcome, brokenOutcome, partsOutcome, turnOn, walkOn, turnBack, walkBack, baseFrom, shortParts, firstPart, lastPart, toLast, toEnd, toFirst, longParts, partsFrom, icmaParts};
+ghost use Rattle.paper.specs.Outcome.{given};
+ghost use Rattle.icma.specs.Walk.{step, walkOutcome, brokenOutcome, partsOutcome, turnOn, walkOn, turnBack, walkBack, baseFrom, shortParts, firstPart, lastPart, toLast, toEnd, toFirst, longParts, partsFrom, icmaParts};
 use calendar::Date;
 use calendar::DateAnswer;
 use time_period::TimePeriod;
@@ -253,8 +254,7 @@ fn parts_from(p: TimePeriod, q: TimePeriod, start: Date, end: Date, b: Walked) -
     long_parts(p, q, start, end, b.at)
 }
 
-// Inner: the parts between two dates already judged, of a period already seen to be at least 1. Day counts follow by division.
-pub fn icma_parts(p: TimePeriod, start: Date, end: Date, roll: Date) -> PartsAnswer
+fn walked_parts(p: TimePeriod, start: Date, end: Date, roll: Date) -> PartsAnswer
     requires { ⌜ (isDate start ≡ true) × (isDate end ≡ true) × (dayNumber start ≤ dayNumber end) × (isDate roll ≡ true) × (ltZ (pos 0) (p .num) ≡ true) ⌝ }
     ensures { λ r. ⌜ partsOutcome r ≡ icmaParts p start end roll ⌝ }
 {
@@ -265,4 +265,29 @@ pub fn icma_parts(p: TimePeriod, start: Date, end: Date, roll: Date) -> PartsAns
         WalkAnswer::Walked(b) => parts_from(p, q, start, end, b),
         WalkAnswer::Refused(k) => PartsAnswer::Refused(k),
     }
+}
+
+// Whether a period leads from one date to another.
+fn leads(p: TimePeriod, from: Date, to: Date) -> bool
+    requires { ⌜ isDate from ≡ true ⌝ }
+    ensures { λ r. ⌜ (r ≡ true → step p from ≡ given to) ⌝ }
+{
+    match time_period::step(p, from) {
+        DateAnswer::Date(u) => calendar::is_same(u, to),
+        DateAnswer::Refused(_) => false,
+    }
+}
+
+// Inner: the parts between two dates already judged, of a period already seen to be at least 1. Day counts follow by division.
+// A coupon is most often one period from its roll date, which takes no walk.
+pub fn icma_parts(p: TimePeriod, start: Date, end: Date, roll: Date) -> PartsAnswer
+    requires { ⌜ (isDate start ≡ true) × (isDate end ≡ true) × (dayNumber start ≤ dayNumber end) × (isDate roll ≡ true) × (ltZ (pos 0) (p .num) ≡ true) ⌝ }
+    ensures { λ r. ⌜ partsOutcome r ≡ icmaParts p start end roll ⌝ }
+{
+    if calendar::is_same(roll, start) {
+        if leads(p, start, end) {
+            return PartsAnswer::Parts(Parts::Long(Broken::Nothing, Broken::Nothing, 1));
+        }
+    }
+    walked_parts(p, start, end, roll)
 }

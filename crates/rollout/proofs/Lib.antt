@@ -1,4 +1,5 @@
 pub mod Flows
+pub mod Dues
 pub mod Passes
 pub mod OneOutcome
 pub mod Examples

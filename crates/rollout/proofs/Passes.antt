@@ -15,6 +15,8 @@ use Rattle.paper.proofs.Outcomes.{given-injective, given-not-refused}
 use Rattle.room.specs.Room.{fitting, counted, roomAfter}
 use Rattle.room.proofs.Filling.{Filled, filled-none, filled-more, filled-all, room-copied}
 use Rattle.cash_flow.specs.declared.CashFlow.{CashFlow}
+use Rattle.cash_flow.specs.Flows.{flowsOutcome}
+use Rattle.cash_flow.specs.declared.FlowsAnswer.{FlowsAnswer}
 use Rattle.cash_flow.specs.declared.FlowsAnswer.the-variants as flows-answer
 use Rattle.holidays.specs.Table.{isTable}
 use Rattle.bond.specs.Notes.{isPosition, noteChecks}
@@ -216,6 +218,13 @@ module _ (n : Note) (position : Float) (table : List ℕ) where
             days-are = d ∙ sym (ap (λ (o : Outcome (List CashFlow)). roomAfter dayOf o days) e);
             amounts-are = a ∙ sym (ap (λ (o : Outcome (List CashFlow)). roomAfter amountOf o amounts) e);
           }
+
+      -- more than are kept: the first pass's own promise, over the lent room
+      pub fill-again : (m : ℕ) (r : FlowsAnswer) (days′ : List ℕ) (amounts′ : List Float) → given m ≡ counted (noteFlows n position table) → m ≤ length days → m ≤ length amounts → flowsOutcome r ≡ counted (noteFlows n position table) → Kept n position table days amounts days′ amounts′ → RolloutPromise n position table days amounts r days′ amounts′
+      fill-again m r days′ amounts′ c hd ha e k =
+          let h = k .hold m (sym c) hd ha in
+          let d = fill-done m days′ amounts′ c hd ha (h .0) (h .1) in
+          record { answer = e ∙ sym c ∙ d .answer; days-are = d .days-are; amounts-are = d .amounts-are }
 
       -- the kept flows, copied
       pub fill-copied : (m : ℕ) (empty-days kept-days days′ : List ℕ) (empty-amounts kept-amounts amounts′ : List Float) → given m ≡ counted (noteFlows n position table) → m ≤ length days → m ≤ length amounts → Kept n position table empty-days empty-amounts kept-days kept-amounts → m ≤ length empty-days → m ≤ length empty-amounts → days′ ≡ take m kept-days ++ drop m days → amounts′ ≡ take m kept-amounts ++ drop m amounts → RolloutPromise n position table days amounts (flows-answer.Flows m) days′ amounts′

@@ -6,16 +6,24 @@ use mathlib.Core.Bool.{true}
 use mathlib.Core.List.{List, []}
 use lib.ListN.{length}
 use lib.Ieee.{Float}
-use Rattle.paper.specs.Outcome.{Outcome, given, refused}
+use Rattle.paper.specs.Outcome.{Outcome, given, refused, andThen, pick}
 use Rattle.room.specs.Room.{counted, roomAfter}
-use Rattle.calendar.specs.Dates.{isDate, dayNumber}
+use Rattle.calendar.specs.Dates.{isDate, isBefore, dayNumber}
+use Rattle.calendar.specs.declared.Date.{Date}
 use Rattle.holidays.specs.Table.{isTable}
 use Rattle.cash_flow.specs.declared.CashFlow.{CashFlow}
-use Rattle.bond.specs.Notes.{isPosition, noteChecks}
+use Rattle.time_period.specs.Steps.{absent, stepped}
+use Rattle.day_fraction.specs.Fractions.{Span}
+use Rattle.day_count_conv.specs.Conventions.{inBits, byRule}
+use Rattle.bond.specs.Notes.{isPosition, noteChecks, firstCouponEnd, nominalOf, couponAmount}
 use Rattle.bond.specs.declared.Note.{Note}
-use Rattle.rollout.specs.Rollout.{followed, flowsAfter, noteFlows, dayOf, amountOf}
+use Rattle.rollout.specs.Rollout.{rolledFrom, followed, flowsAfter, noteFlows, dayOf, amountOf}
 use Rattle.rollout.specs.declared.Due.{Due}
 use Rattle.rollout.specs.declared.Due.the-variants.{First, After, Nothing}
+use Rattle.rollout.specs.declared.Coming.{Coming}
+use Rattle.rollout.specs.declared.Coming.the-variants as coming
+use Rattle.rollout.specs.declared.Owed.{Owed}
+use Rattle.rollout.specs.declared.Owed.the-variants as owed
 use Rattle.rollout.specs.declared.Step.{Step}
 use Rattle.rollout.specs.declared.Step.the-variants.{Pay, Stop, End}
 
@@ -59,3 +67,38 @@ Turned n position table due End = flowsDue n position table due ≡ given []
 -- where all flows are given and both lists have a place for each, the lists hold their days and amounts
 pub record Kept (n : Note) (position : Float) (table days : List ℕ) (amounts : List Float) (days′ : List ℕ) (amounts′ : List Float) : Type 0 where
   pub hold : (m : ℕ) → counted (noteFlows n position table) ≡ given m → m ≤ length days → m ≤ length amounts → (days′ ≡ roomAfter dayOf (noteFlows n position table) days) × (amounts′ ≡ roomAfter amountOf (noteFlows n position table) amounts)
+
+-- what comes next: a coupon to an end that is found, or the refusal
+abbrev pub couponTo : (Date → Coming) → Outcome Date → Coming
+couponTo coupon (given end) = coupon end
+couponTo coupon (refused k) = coming.Stop k
+
+abbrev pub comingFirst : Note → Coming
+comingFirst n = couponTo (λ end. coming.Coupon (n .«issue_date») end end) (firstCouponEnd n)
+
+abbrev pub comingAfter : Note → Date → Coming
+comingAfter n t = pick (isBefore t (n .maturity)) (couponTo (λ next. coming.Coupon t next t) (stepped (n .period) absent t)) coming.Nominal
+
+abbrev pub comingOf : Note → Due → Coming
+comingOf n First = comingFirst n
+comingOf n (After t) = comingAfter n t
+comingOf n Nothing = coming.End
+
+-- a coupon's dates are in order, and so is its roll date
+abbrev pub Spanned : Coming → Type 0
+Spanned (coming.Coupon start end roll) = Span start end × (isDate roll ≡ true)
+Spanned coming.Nominal = 0 < 1
+Spanned (coming.Stop k) = 0 < 1
+Spanned coming.End = 0 < 1
+
+-- what is owed for it
+abbrev pub owes : Date → Due → Outcome Float → Owed
+owes t next (given x) = owed.Pay t x next
+owes t next (refused k) = owed.Stop k
+
+abbrev pub owedOf : Note → Float → Coming → Owed
+owedOf n position (coming.Coupon start end roll) =
+    owes end (After end) (andThen (byRule inBits (n .«day_count_convention») start end (rolledFrom n roll)) (λ fraction. given (couponAmount position n fraction)))
+owedOf n position coming.Nominal = owed.Pay (n .maturity) (nominalOf position n) Nothing
+owedOf n position (coming.Stop k) = owed.Stop k
+owedOf n position coming.End = owed.End

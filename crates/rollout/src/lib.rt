@@ -4,14 +4,12 @@ ghost use mathlib.Core.Bool.{true};
 ghost use Prim.Native.Nat.{_≤_};
 ghost use mathlib.Core.List.{_++_};
 ghost use lib.ListN.{length, take, drop, set};
-ghost use Rattle.paper.specs.Outcome.{given};
-ghost use Rattle.room.specs.Room.{counted, roomAfter};
-ghost use Rattle.calendar.specs.Dates.{isDate, isBefore};
+ghost use Rattle.room.specs.Room.{counted};
+ghost use Rattle.calendar.specs.Dates.{isDate};
 ghost use Rattle.holidays.specs.Table.{ascending};
-ghost use Rattle.day_fraction.specs.Fractions.{Span};
 ghost use Rattle.cash_flow.specs.Flows.{flowsOutcome};
-ghost use Rattle.rollout.specs.Rollout.{paid, couponFlow, noteFlows, dayOf, amountOf, RolloutPromise};
-ghost use Rattle.rollout.specs.Turns.{Judged, stepOf, Dated, Turned, Kept};
+ghost use Rattle.rollout.specs.Rollout.{paid, noteFlows, RolloutPromise};
+ghost use Rattle.rollout.specs.Turns.{Judged, stepOf, Dated, Turned, Kept, comingFirst, comingAfter, comingOf, Spanned, owedOf};
 use bond::Note;
 use bond::NoteAnswer;
 use calendar::Date;
@@ -40,13 +38,36 @@ pub enum Step {
     End,
 }
 
+// What comes next: a coupon from a start to an end that rolls from a date, the nominal, a refusal, or nothing more.
+pub enum Coming {
+    Coupon(Date, Date, Date),
+    Nominal,
+    Stop(u32),
+    End,
+}
+
+// What is owed: an amount on a date that is not adjusted yet, and what is due after it; a refusal, or nothing more.
+pub enum Owed {
+    Pay(Date, f64, Due),
+    Stop(u32),
+    End,
+}
+
+// A step, and the place of its date among the holidays.
+pub struct Taken {
+    pub step: Step,
+    pub near: usize,
+}
+
 // An amount on the adjusted date.
-fn pay(note: Note, table: &[u32], t: Date, amount: f64, next: Due) -> Step
+fn pay(note: Note, table: &[u32], near: usize, t: Date, amount: f64, next: Due) -> Taken
     requires { ⌜ (isDate t ≡ true) × (ascending (now table) ≡ true) ⌝ }
-    ensures { λ r. ⌜ r ≡ stepOf (paid note (now (table .entry)) t amount) next ⌝ }
+    ensures { λ r. ⌜ r .step ≡ stepOf (paid note (now (table .entry)) t amount) next ⌝ }
 {
     let rule = note.business_day_rule;
-    match day_adjust::adjust_judged(rule, t, table) {
+    let n = calendar::number_of(t);
+    let i = holidays::first_near(table, n, near);
+    match day_adjust::adjust_at(rule, t, n, table, i) {
         DateAnswer::Date(u) => {
             let currency = note.currency;
             let flow = CashFlow {
@@ -54,57 +75,101 @@ fn pay(note: Note, table: &[u32], t: Date, amount: f64, next: Due) -> Step
                 currency,
                 amount,
             };
-            Step::Pay(calendar::number_of(u), flow, next)
+            let step = Step::Pay(calendar::number_of(u), flow, next);
+            Taken { step, near: i }
         }
-        DateAnswer::Refused(k) => Step::Stop(k),
-    }
-}
-
-// The coupon from start to end.
-fn coupon(note: Note, position: f64, table: &[u32], start: Date, end: Date, roll: Date) -> Step
-    requires { ⌜ (Span start end) × (isDate roll ≡ true) × (ascending (now table) ≡ true) ⌝ }
-    ensures { λ r. ⌜ r ≡ stepOf (couponFlow note position (now (table .entry)) start end roll) (Due.After end) ⌝ }
-{
-    let rule = note.day_count_convention;
-    let period = note.period;
-    let extras = Extras {
-        roll: RollDate::Date(roll),
-        period: RollPeriod::Period(period),
-    };
-    match day_count_conv::fraction_judged(rule, start, end, extras) {
-        YearFraction::Fraction(fraction) => {
-            let amount = bond::coupon_amount(position, note, fraction);
-            pay(note, table, end, amount, Due::After(end))
+        DateAnswer::Refused(k) => {
+            let step = Step::Stop(k);
+            Taken { step, near: i }
         }
-        YearFraction::Refused(k) => Step::Stop(k),
     }
 }
 
 // The first coupon rolls from its end.
-fn first_turn(note: Note, position: f64, table: &[u32]) -> Step
-    requires { ⌜ Judged note position (now table) ⌝ }
-    ensures { λ r. ⌜ Turned note position (now (table .entry)) Due.First r ⌝ }
+fn coming_first(note: Note) -> Coming
+    ensures { λ r. ⌜ r ≡ comingFirst note ⌝ }
 {
+    let issue = note.issue_date;
     match bond::first_coupon_end(note) {
-        DateAnswer::Date(end) => coupon(note, position, table, note.issue_date, end, end),
-        DateAnswer::Refused(k) => Step::Stop(k),
+        DateAnswer::Date(end) => Coming::Coupon(issue, end, end),
+        DateAnswer::Refused(k) => Coming::Stop(k),
     }
 }
 
 // A later coupon, a period on, rolls from its start; the nominal comes behind the last.
-fn next_turn(note: Note, position: f64, table: &[u32], end: Date) -> Step
-    requires { ⌜ (Judged note position (now table)) × (isDate end ≡ true) ⌝ }
-    ensures { λ r. ⌜ Turned note position (now (table .entry)) (Due.After end) r ⌝ }
+fn coming_after(note: Note, end: Date) -> Coming
+    requires { ⌜ isDate end ≡ true ⌝ }
+    ensures { λ r. ⌜ r ≡ comingAfter note end ⌝ }
 {
-    if calendar::is_before(end, note.maturity) {
-        let period = note.period;
-        match time_period::step(period, end) {
-            DateAnswer::Date(next) => coupon(note, position, table, end, next, end),
-            DateAnswer::Refused(k) => Step::Stop(k),
+    if !calendar::is_before(end, note.maturity) {
+        return Coming::Nominal;
+    }
+    let period = note.period;
+    match time_period::step(period, end) {
+        DateAnswer::Date(next) => Coming::Coupon(end, next, end),
+        DateAnswer::Refused(k) => Coming::Stop(k),
+    }
+}
+
+fn what_comes(note: Note, due: Due) -> Coming
+    requires { ⌜ Dated due ⌝ }
+    ensures { λ r. ⌜ r ≡ comingOf note due ⌝ }
+{
+    match due {
+        Due::First => coming_first(note),
+        Due::After(end) => coming_after(note, end),
+        Due::Nothing => Coming::End,
+    }
+}
+
+// What comes, as an amount. Each of these has one caller, so that the compiler keeps them out of memory.
+fn what_is_owed(note: Note, position: f64, c: Coming) -> Owed
+    requires { ⌜ Spanned c ⌝ }
+    ensures { λ r. ⌜ r ≡ owedOf note position c ⌝ }
+{
+    match c {
+        Coming::Coupon(start, end, roll) => {
+            let rule = note.day_count_convention;
+            let period = note.period;
+            let extras = Extras {
+                roll: RollDate::Date(roll),
+                period: RollPeriod::Period(period),
+            };
+            match day_count_conv::fraction_judged(rule, start, end, extras) {
+                YearFraction::Fraction(fraction) => {
+                    let amount = bond::coupon_amount(position, note, fraction);
+                    let next = Due::After(end);
+                    Owed::Pay(end, amount, next)
+                }
+                YearFraction::Refused(k) => Owed::Stop(k),
+            }
         }
-    } else {
-        let amount = bond::nominal(position, note);
-        pay(note, table, note.maturity, amount, Due::Nothing)
+        Coming::Nominal => {
+            let amount = bond::nominal(position, note);
+            let maturity = note.maturity;
+            let next = Due::Nothing;
+            Owed::Pay(maturity, amount, next)
+        }
+        Coming::Stop(k) => Owed::Stop(k),
+        Coming::End => Owed::End,
+    }
+}
+
+// One step of a note, a position and a table already judged, from a place of the table that may be near its date's.
+fn turn_near(note: Note, position: f64, table: &[u32], near: usize, due: Due) -> Taken
+    requires { ⌜ (Judged note position (now table)) × (Dated due) ⌝ }
+    ensures { λ r. ⌜ Turned note position (now (table .entry)) due (r .step) ⌝ }
+{
+    match what_is_owed(note, position, what_comes(note, due)) {
+        Owed::Pay(t, amount, next) => pay(note, table, near, t, amount, next),
+        Owed::Stop(k) => {
+            let step = Step::Stop(k);
+            Taken { step, near }
+        }
+        Owed::End => {
+            let step = Step::End;
+            Taken { step, near }
+        }
     }
 }
 
@@ -113,11 +178,8 @@ pub fn turn(note: Note, position: f64, table: &[u32], due: Due) -> Step
     requires { ⌜ (Judged note position (now table)) × (Dated due) ⌝ }
     ensures { λ r. ⌜ Turned note position (now (table .entry)) due r ⌝ }
 {
-    match due {
-        Due::First => first_turn(note, position, table),
-        Due::After(end) => next_turn(note, position, table, end),
-        Due::Nothing => Step::End,
-    }
+    let taken = turn_near(note, position, table, holidays::NOWHERE, due);
+    taken.step
 }
 
 // Keeps a day, or an amount, at a place where there is one.
@@ -150,9 +212,13 @@ pub fn collect(
     ensures { λ _. ⌜ Kept note position (now (table .entry)) (now (days .entry)) (now (amounts .entry)) (now (days .exit)) (now (amounts .exit)) ⌝ }
 {
     let mut k: usize = 0;
+    let mut near = holidays::NOWHERE;
     let mut due = Due::First;
     loop {
-        match turn(note, position, table, due) {
+        let taken = turn_near(note, position, table, near, due);
+        near = taken.near;
+        let step = taken.step;
+        match step {
             Step::Pay(day, flow, next) => {
                 keep_day(days, k, day);
                 keep_amount(amounts, k, flow.amount);
@@ -184,26 +250,6 @@ fn copy(n: usize, kept_days: &[u32], kept_amounts: &[f64], days: &mut [u32], amo
     }
 }
 
-// Writes the flows, which are n and more than are kept, so that their turns are run again; a turn that does not pay is proved impossible.
-fn write(note: Note, position: f64, table: &[u32], n: usize, days: &mut [u32], amounts: &mut [f64])
-    requires { ⌜ (Judged note position (now table)) × (counted (noteFlows note position (now table)) ≡ given n) ⌝ }
-    requires { ⌜ (n ≤ length (now days)) × (n ≤ length (now amounts)) ⌝ }
-    ensures { λ _. ⌜ now (days .exit) ≡ roomAfter dayOf (noteFlows note position (now (table .entry))) (now (days .entry)) ⌝ }
-    ensures { λ _. ⌜ now (amounts .exit) ≡ roomAfter amountOf (noteFlows note position (now (table .entry))) (now (amounts .entry)) ⌝ }
-{
-    let mut k: usize = 0;
-    let mut due = Due::First;
-    while k < n {
-        let Step::Pay(day, flow, after) = turn(note, position, table, due) else {
-            return;
-        };
-        days[k] = day;
-        amounts[k] = flow.amount;
-        due = after;
-        k += 1;
-    }
-}
-
 // Of a note, a position and a table already judged.
 fn fill(
     note: Note,
@@ -229,8 +275,7 @@ fn fill(
                 copy(n, &kept_days, &kept_amounts, days, amounts);
                 return FlowsAnswer::Flows(n);
             }
-            write(note, position, table, n, days, amounts);
-            FlowsAnswer::Flows(n)
+            collect(note, position, table, days, amounts)
         }
         FlowsAnswer::Refused(k) => FlowsAnswer::Refused(k),
     }

@@ -9,8 +9,8 @@ use Rattle.day_adjust.specs.Adjustment.{nextDate}
 use Rattle.day_adjust.proofs.next_date.Statement.{statement}
 use Rattle.day_adjust.proofs.next_date.Tie as tie
 
-next-from-requires : tie.Need-next-from-requires
-next-from-requires c κs = search needs
+next-at-requires : tie.Need-next-at-requires
+next-at-requires c κs = search needs
 
 enum-known-d : tie.Need-enum-known-d
 enum-known-d c = search needs
@@ -25,15 +25,15 @@ returns : tie.Need-returns
 unfolding nextDate
 returns c =
     let p = c .before .before in
-    c .date-of .ensures ∙ ap (λ (o : Outcome Day). andThen o dateOf) (ap dayOutcome (sym (p .d .given .1)) ∙ p .before .before .next-from .ensures)
+    c .date-of .ensures ∙ ap (λ (o : Outcome Day). andThen o dateOf) (ap dayOutcome (sym (p .d .given .1)) ∙ p .before .before .next-at .ensures)
 
 returns-2 : tie.Need-returns-2
 unfolding nextDate
 returns-2 c =
     let p = c .before in
-    ap (λ (o : Outcome Day). andThen o dateOf) (ap dayOutcome (sym (p .k .given .1)) ∙ p .before .before .next-from .ensures)
+    ap (λ (o : Outcome Day). andThen o dateOf) (ap dayOutcome (sym (p .k .given .1)) ∙ p .before .before .next-at .ensures)
 
 pub next-date-spec : {M : Type 1} → statement M
 next-date-spec =
     tie.close
-    (tie.spec next-from-requires enum-known-d date-of-requires enum-known-k returns returns-2)
+    (tie.spec next-at-requires enum-known-d date-of-requires enum-known-k returns returns-2)

@@ -9,8 +9,8 @@ use Rattle.day_adjust.specs.Adjustment.{prevDate}
 use Rattle.day_adjust.proofs.prev_date.Statement.{statement}
 use Rattle.day_adjust.proofs.prev_date.Tie as tie
 
-prev-from-requires : tie.Need-prev-from-requires
-prev-from-requires c κs = search needs
+prev-at-requires : tie.Need-prev-at-requires
+prev-at-requires c κs = search needs
 
 enum-known-d : tie.Need-enum-known-d
 enum-known-d c = search needs
@@ -25,15 +25,15 @@ returns : tie.Need-returns
 unfolding prevDate
 returns c =
     let p = c .before .before in
-    c .date-of .ensures ∙ ap (λ (o : Outcome Day). andThen o dateOf) (ap dayOutcome (sym (p .d .given .1)) ∙ p .before .before .prev-from .ensures)
+    c .date-of .ensures ∙ ap (λ (o : Outcome Day). andThen o dateOf) (ap dayOutcome (sym (p .d .given .1)) ∙ p .before .before .prev-at .ensures)
 
 returns-2 : tie.Need-returns-2
 unfolding prevDate
 returns-2 c =
     let p = c .before in
-    ap (λ (o : Outcome Day). andThen o dateOf) (ap dayOutcome (sym (p .k .given .1)) ∙ p .before .before .prev-from .ensures)
+    ap (λ (o : Outcome Day). andThen o dateOf) (ap dayOutcome (sym (p .k .given .1)) ∙ p .before .before .prev-at .ensures)
 
 pub prev-date-spec : {M : Type 1} → statement M
 prev-date-spec =
     tie.close
-    (tie.spec prev-from-requires enum-known-d date-of-requires enum-known-k returns returns-2)
+    (tie.spec prev-at-requires enum-known-d date-of-requires enum-known-k returns returns-2)

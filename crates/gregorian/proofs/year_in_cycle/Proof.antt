@@ -1,79 +1,39 @@
--- `gregorian::year_in_cycle` meets its contract: the years are halved, and the table says on which side the day lies.
+-- `gregorian::year_in_cycle` meets its contract: a year has 365 days or one more, and a cycle has 97 that have one more.
 -- Assumes nothing.
-use Prim.Native.Nat.{suc, _+_, _-_, _/_, _≤_, _<_}
+use Prim.Native.Nat.{ℕ, suc, _+_, _-_, _/_}
 use mathlib.Core.Path.{_≡_}
 use native.Mathlib.Omega.{arith}
 use borrow.Author.Needs.{needs}
 use Rattle.gregorian.specs.Gregorian.{beforeYear}
-use Rattle.gregorian.proofs.Years.{before-one, whole}
+use Rattle.gregorian.proofs.Years.{in-365, before-365}
 use Rattle.gregorian.proofs.year_in_cycle.Statement.{statement}
 use Rattle.gregorian.proofs.year_in_cycle.Tie as tie
 
-abbrev Inv-loop : tie.InvT-loop
-Inv-loop e first lo₀ hi₀ lo hi = (lo < hi) × (hi ≤ 400) × (beforeYear (suc lo) < e) × (e ≤ beforeYear (suc hi))
+sub-year : tie.Need-sub-year
+sub-year c = search needs
 
-abbrev μ-loop : tie.MeasureT-loop
-μ-loop e first lo₀ hi₀ lo hi = hi - lo
+add-year : tie.Need-add-year
+add-year c = search needs
 
-first-of-years-requires : tie.Need-first-of-years-requires Inv-loop μ-loop
-first-of-years-requires c κs = search needs
+days-before-year-requires : tie.Need-days-before-year-requires
+days-before-year-requires c κs = search needs
 
-loop-holds : tie.Need-loop-holds Inv-loop μ-loop
-loop-holds c = omega (arith, before-one, whole)
+sub-result : tie.Need-sub-result
+sub-result c = search needs
 
-add-loop : tie.Need-add-loop Inv-loop μ-loop
-add-loop c = omega arith
-
-add-mid : tie.Need-add-mid Inv-loop μ-loop
-add-mid c = omega arith
-
-cast-if1 : tie.Need-cast-if1 Inv-loop μ-loop
-cast-if1 c = search needs
-
-mul-if1 : tie.Need-mul-if1 Inv-loop μ-loop
-mul-if1 c = search needs
-
-array-read-if1 : tie.Need-array-read-if1 Inv-loop μ-loop
-array-read-if1 c = search needs
-
-loop-less : tie.Need-loop-less Inv-loop μ-loop
-loop-less c = omega arith
-
-loop-again : tie.Need-loop-again Inv-loop μ-loop
-loop-again c = let l = c .before .before .loop in omega (arith, c .before .before .before .first-of-years .ensures ((l .lo + l .hi) / 2) (omega arith))
-
-loop-less-2 : tie.Need-loop-less-2 Inv-loop μ-loop
-loop-less-2 c = omega arith
-
-loop-again-2 : tie.Need-loop-again-2 Inv-loop μ-loop
-loop-again-2 c = let l = c .before .before .loop in omega (arith, c .before .before .before .first-of-years .ensures ((l .lo + l .hi) / 2) (omega arith))
-
-add-result : tie.Need-add-result Inv-loop μ-loop
-add-result c = omega arith
-
-returns : tie.Need-returns Inv-loop μ-loop
+returns : tie.Need-returns
 returns c =
-    let l = c .before .loop in
-    let e : l .hi ≡ suc (l .lo) = omega arith in
-    let r : l .lo + 1 ≡ suc (l .lo) = omega arith in
-    rw r (omega arith, omega arith, l .inv .2, rw e at (l .inv .3))
+    let n = (c .before .before .args .e - 1) / 365 in
+    let s : n + 1 ≡ suc n = omega arith in
+    rw s (in-365 n _ (omega arith) (omega arith) (omega (arith, rw s at (c .before .days-before-year .ensures))))
+
+returns-2 : tie.Need-returns-2
+returns-2 c =
+    let n = (c .before .before .args .e - 1) / 365 in
+    let s : n + 1 ≡ suc n = omega arith in
+    let t : n + 1 - 1 ≡ n = omega arith in
+    rw t (before-365 n _ (omega arith) (omega arith) (omega (arith, rw s at (c .before .days-before-year .ensures))))
 
 pub year-in-cycle-spec : {M : Type 1} → statement M
 year-in-cycle-spec =
-    tie.close
-    (tie.spec
-    Inv-loop
-    μ-loop
-    first-of-years-requires
-    loop-holds
-    add-loop
-    add-mid
-    cast-if1
-    mul-if1
-    array-read-if1
-    loop-less
-    loop-again
-    loop-less-2
-    loop-again-2
-    add-result
-    returns)
+    tie.close (tie.spec sub-year add-year days-before-year-requires sub-result returns returns-2)

@@ -28,18 +28,30 @@ returns-2 c =
     let s = c .before .before .before .before .before in
     no-table (s .args .d) (s .args .table .now) (given (isBusiness (s .args .table .now) (s .args .d .0))) (sym (c .before .before .before .is-day .ensures) ∙ not-false _ (c .before .before .if1 .left)) (sym (c .before .is-table .ensures) ∙ not-true _ (c .if2 .taken))
 
-business-on-requires : tie.Need-business-on-requires
-business-on-requires c κs =
+first-from-requires : tie.Need-first-from-requires
+first-from-requires c κs =
     let s = c .before .before .before .before .before in
-    is-judged (s .args .d) (s .args .table .now) (sym (c .before .before .before .is-day .ensures) ∙ not-false _ (c .before .before .if1 .left)) (sym (c .before .is-table .ensures) ∙ not-false _ (c .if2 .left))
+    is-judged (s .args .d) (s .args .table .now) (sym (c .before .before .before .is-day .ensures) ∙ not-false _ (c .before .before .if1 .left)) (sym (c .before .is-table .ensures) ∙ not-false _ (c .if2 .left)) .sorted
+
+business-at-requires : tie.Need-business-at-requires
+business-at-requires c κs =
+    let s = c .before .before .before .before .before .before in
+    (is-judged (s .args .d) (s .args .table .now) (sym (c .before .before .before .before .is-day .ensures) ∙ not-false _ (c .before .before .before .if1 .left)) (sym (c .before .before .is-table .ensures) ∙ not-false _ (c .before .if2 .left)), c .first-from .ensures)
 
 returns-3 : tie.Need-returns-3
 unfolding isBusinessDay
 returns-3 c =
-    let s = c .before .before .before .before .before .before in
-    ap given (c .business-on .ensures) ∙ both-taken (s .args .d) (s .args .table .now) (given (isBusiness (s .args .table .now) (s .args .d .0))) (sym (c .before .before .before .before .is-day .ensures) ∙ not-false _ (c .before .before .before .if1 .left)) (sym (c .before .before .is-table .ensures) ∙ not-false _ (c .before .if2 .left))
+    let s = c .before .before .before .before .before .before .before in
+    ap given (c .business-at .ensures) ∙ both-taken (s .args .d) (s .args .table .now) (given (isBusiness (s .args .table .now) (s .args .d .0))) (sym (c .before .before .before .before .before .is-day .ensures) ∙ not-false _ (c .before .before .before .before .if1 .left)) (sym (c .before .before .before .is-table .ensures) ∙ not-false _ (c .before .before .if2 .left))
 
 pub is-business-day-spec : {M : Type 1} → statement M
 is-business-day-spec =
     tie.close
-    (tie.spec is-day-requires returns is-table-requires returns-2 business-on-requires returns-3)
+    (tie.spec
+    is-day-requires
+    returns
+    is-table-requires
+    returns-2
+    first-from-requires
+    business-at-requires
+    returns-3)

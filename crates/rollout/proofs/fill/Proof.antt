@@ -1,4 +1,4 @@
--- `rollout::fill` meets its contract: the first pass decides the answer; what it kept is copied, and more than that is written by the turns.
+-- `rollout::fill` meets its contract: the first pass decides the answer; what it kept is copied, and for more than that it is run again over the lent room.
 -- Assumes nothing.
 use mathlib.Core.Path.{_≡_, sym, _∙_, ap}
 use native.Mathlib.Omega.{arith}
@@ -6,7 +6,7 @@ use Rattle.paper.specs.Outcome.{given}
 use Rattle.room.specs.Room.{counted}
 use Rattle.cash_flow.specs.Flows.{flowsOutcome}
 use Rattle.rollout.specs.Rollout.{noteFlows}
-use Rattle.rollout.proofs.Passes.{fill-stopped, fill-short, fill-done, fill-copied}
+use Rattle.rollout.proofs.Passes.{fill-stopped, fill-short, fill-again, fill-copied}
 use borrow.Author.Needs.{needs}
 use Rattle.rollout.proofs.fill.Statement.{statement}
 use Rattle.rollout.proofs.fill.Tie as tie
@@ -64,11 +64,8 @@ returns-3 c =
     let w = c .before .before .before .before .copy .ensures in
     fill-copied (s .args .note) (s .args .position) (s .args .table .now) (s .args .days .now) (s .args .amounts .now) (s .pre) _ _ _ _ _ _ _ (found n) (c .before .before .before .before .before .before .before .before .before .before .before .if1 .left) (c .before .before .before .before .before .before .before .before .before .before .if2 .left) (n .before .before .before .before .collect .ensures .1) (c .before .before .before .before .before .before .before .before .before .if3 .taken) (c .before .before .before .before .before .before .before .before .before .if3 .taken) (w .0) (w .1)
 
-write-requires : tie.Need-write-requires
-write-requires c κs =
-    let n = c .before .before .before .before .before .before in
-    let s : tie.Start = n .before .before .before .before .before .before .before .before .before .before in
-    ((s .pre, sym (found n)), (c .before .before .before .before .if1 .left, c .before .before .before .if2 .left))
+collect-requires-2 : tie.Need-collect-requires-2
+collect-requires-2 c κs = search needs
 
 enum-known-k : tie.Need-enum-known-k
 enum-known-k c = search needs
@@ -83,8 +80,8 @@ returns-4 : tie.Need-returns-4
 returns-4 c =
     let n = c .before .before .before .before .before .before .before .before .before .before .before in
     let s : tie.Start = n .before .before .before .before .before .before .before .before .before .before in
-    let w = c .before .before .before .before .write .ensures in
-    fill-done (s .args .note) (s .args .position) (s .args .table .now) (s .args .days .now) (s .args .amounts .now) (s .pre) _ _ _ (found n) (c .before .before .before .before .before .before .before .before .before .if1 .left) (c .before .before .before .before .before .before .before .before .if2 .left) (w .0) (w .1)
+    let w = c .before .before .before .before .collect2 .ensures in
+    fill-again (s .args .note) (s .args .position) (s .args .table .now) (s .args .days .now) (s .args .amounts .now) (s .pre) _ _ _ _ (found n) (c .before .before .before .before .before .before .before .before .before .if1 .left) (c .before .before .before .before .before .before .before .before .if2 .left) (w .0) (w .1)
 
 returns-5 : tie.Need-returns-5
 returns-5 c =
@@ -108,7 +105,7 @@ fill-spec =
     same-length
     same-length-2
     returns-3
-    write-requires
+    collect-requires-2
     enum-known-k
     same-length-3
     same-length-4

@@ -44,7 +44,7 @@ listedAfter day flows = after (isDay day) (λ f. isDayNumber (f .day)) (λ f. is
 abbrev pub shortest : ℕ → ℕ → ℕ → ℕ
 shortest a b c = min a (min b c)
 
--- the same for flows in plain lists: refused 1, then 16
+-- refused 1, then 16 for fewer places than later flows
 unfoldable pub listedWritten : Day → List Listed → ℕ → Outcome (List Listed)
 listedWritten day flows places = fitting places (listedAfter day flows)
 

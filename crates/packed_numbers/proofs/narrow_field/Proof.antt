@@ -1,4 +1,4 @@
--- `packed_note::narrow_field` meets its contract: the field fits.
+-- `packed_numbers::narrow_field` meets its contract: the field fits.
 -- Assumes nothing.
 use Prim.Native.Nat.{_^_, _<_}
 use native.Mathlib.Nat.{lt-of-lt-of-le}

@@ -1,4 +1,4 @@
--- `packed_note::read_letters` meets its contract: each field where it stands.
+-- `packed_numbers::read_letters` meets its contract: each field where it stands.
 -- Assumes nothing.
 use borrow.Author.Needs.{needs}
 use Rattle.packed_numbers.proofs.read_letters.Statement.{statement}

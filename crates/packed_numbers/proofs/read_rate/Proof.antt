@@ -1,4 +1,4 @@
--- `packed_note::read_rate` meets its contract: two halves are the whole.
+-- `packed_numbers::read_rate` meets its contract: two halves are the whole.
 -- Assumes nothing.
 use Prim.Native.Nat.{_<_}
 use mathlib.Core.Path.{sym}

@@ -1,4 +1,4 @@
--- `packed_note::read_raw` meets its contract: each field where it stands.
+-- `packed_numbers::read_raw` meets its contract: each field where it stands.
 -- Assumes nothing.
 use Rattle.packed_numbers.specs.Numbers.{rawOf}
 use borrow.Author.Needs.{needs}

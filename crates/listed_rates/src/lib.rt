@@ -1,13 +1,23 @@
 // Discounting a stream that is given as plain lists.
 ghost use mathlib.Core.Path.{_≡_};
 ghost use Prim.Native.Nat.{_<_};
+ghost use lib.Dec.{leb};
 ghost use lib.ListN.{length, getD};
+ghost use lib.Ieee.Scale.{finite};
+ghost use Rattle.paper.specs.Outcome.{both};
+ghost use Rattle.cash_amount.specs.Amounts.{isSameCurrency, amountOutcome};
+ghost use Rattle.rates.specs.Rates.{flowAdded};
+ghost use Rattle.listed_rates.specs.Counted.{yearDays, CountedFrom};
 ghost use Rattle.listed_rates.specs.Listed.{currencyAt, flowAt, ListedPromise};
 use calendar::Date;
 use cash_amount::AmountAnswer;
 use cash_amount::Currency;
 use cash_flow::CashFlow;
+use day_count_conv::DayCountConv;
 use rates::FlatRate;
+
+// The day after the calendar's last.
+const NO_DAY: u32 = 3652060;
 
 // The currency whose three bytes a number is, or one that is malformed.
 fn currency_at(n: u32) -> Currency
@@ -34,18 +44,87 @@ fn entry(s: &[u32], i: usize) -> u32
     if i < s.len() { s[i] } else { 0 }
 }
 
-fn flow_at(days: &[u32], currencies: &[u32], amounts: &[f64], i: usize) -> CashFlow
-    requires { ⌜ i < length (now amounts) ⌝ }
-    ensures { λ r. ⌜ r ≡ flowAt (now (days .entry)) (now (currencies .entry)) (now (amounts .entry)) i ⌝ }
+// The days of a rule's year where it counts days, and 0 where it does not.
+fn year_days(rule: DayCountConv) -> u32
+    ensures { λ r. ⌜ r ≡ yearDays rule ⌝ }
 {
-    let date = cash_flow::date_on(entry(days, i));
+    match rule {
+        DayCountConv::Act365 => 365,
+        DayCountConv::Act360 => 360,
+        DayCountConv::Act365l => 0,
+        DayCountConv::D30_360 => 0,
+        DayCountConv::D30E360 => 0,
+        DayCountConv::ActActICMA => 0,
+    }
+}
+
+// The day from which on a flow needs no date: today, judged once for all flows; or none.
+fn counted_from(rate: FlatRate, today: Date) -> u32
+    ensures { λ r. ⌜ CountedFrom rate today r ⌝ }
+{
+    let rule = rate.day_count_conv;
+    if year_days(rule) < 1 {
+        return NO_DAY;
+    }
+    if !cash_amount::is_currency(rate.currency) {
+        return NO_DAY;
+    }
+    if !calendar::is_date(today) {
+        return NO_DAY;
+    }
+    calendar::number_of(today)
+}
+
+// Whether nothing of a flow is refused, and its days are enough.
+fn is_counted(from: u32, own: Currency, day: u32, currency: Currency, amount: f64) -> bool
+    ensures { λ r. ⌜ r ≡ both (leb from day) (both (leb day 3652059) (both (isSameCurrency own currency) (finite amount))) ⌝ }
+{
+    if day < from {
+        return false;
+    }
+    if NO_DAY <= day {
+        return false;
+    }
+    if !cash_amount::is_same_currency(own, currency) {
+        return false;
+    }
+    rates::is_finite(amount)
+}
+
+// The flow at place i, added to the sum so far. A date is taken only where days are not enough: it costs more than all the rest.
+fn added_at(
+    rate: FlatRate,
+    days: &[u32],
+    currencies: &[u32],
+    amounts: &[f64],
+    i: usize,
+    today: Date,
+    from: u32,
+    sum: f64,
+) -> AmountAnswer
+    requires { ⌜ (i < length (now amounts)) × CountedFrom rate today from ⌝ }
+    ensures { λ r. ⌜ amountOutcome r ≡ flowAdded rate today sum (flowAt (now (days .entry)) (now (currencies .entry)) (now (amounts .entry)) i) ⌝ }
+{
+    let day = entry(days, i);
     let currency = currency_at(entry(currencies, i));
     let amount = amounts[i];
-    CashFlow {
-        date,
-        currency,
-        amount,
+    let own = rate.currency;
+    if !is_counted(from, own, day, currency, amount) {
+        let date = cash_flow::date_on(day);
+        return rates::flow_added(
+            rate,
+            CashFlow {
+                date,
+                currency,
+                amount,
+            },
+            today,
+            sum,
+        );
     }
+    let rule = rate.day_count_conv;
+    let yf = (day - from) as f64 / year_days(rule) as f64;
+    AmountAnswer::Amount(sum + rates::simple_factor(rate.rate, yf) * amount)
 }
 
 // A stream as lists: serial days, currencies as numbers, and amounts.
@@ -61,11 +140,11 @@ pub fn discount_listed_flows(
     if !rates::is_rate(rate.rate) {
         return AmountAnswer::Refused(paper::NUMBER_OUT_OF_LIMITS);
     }
+    let from = counted_from(rate, today);
     let mut sum: f64 = 0.0;
     let mut i: usize = 0;
     while i < amounts.len() {
-        let flow = flow_at(days, currencies, amounts, i);
-        match rates::flow_added(rate, flow, today, sum) {
+        match added_at(rate, days, currencies, amounts, i, today, from, sum) {
             AmountAnswer::Amount(x) => {
                 sum = x;
             }

@@ -26,8 +26,8 @@ pub enum FactorAnswer {
     Refused(u32),
 }
 
-// An infinity less itself is no number, and only numbers equal themselves.
-fn is_finite(x: f64) -> bool
+// Inner: a listed stream asks it as well. An infinity less itself is no number, and only numbers equal themselves.
+pub fn is_finite(x: f64) -> bool
     ensures { λ r. ⌜ r ≡ finite x ⌝ }
 {
     let d = x - x;
@@ -41,8 +41,8 @@ pub fn is_rate(x: f64) -> bool
     if 0.0 <= x { x <= 1.0 } else { false }
 }
 
-// finql's operations in its order.
-fn simple_factor(rate: f64, yf: f64) -> f64
+// Inner: a listed stream counts its days itself. finql's operations in its order.
+pub fn simple_factor(rate: f64, yf: f64) -> f64
     ensures { λ r. ⌜ r ≡ factorOf rate yf ⌝ }
 {
     1.0 / (1.0 + rate * yf)

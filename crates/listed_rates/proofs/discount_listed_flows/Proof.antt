@@ -19,11 +19,11 @@ use Rattle.listed_rates.proofs.discount_listed_flows.Statement.{stateme
 use Rattle.listed_rates.proofs.discount_listed_flows.Tie as tie
 
 abbrev Inv-loop : tie.InvT-loop
-Inv-loop rate days currencies amounts today sum₀ i₀ sum i =
+Inv-loop rate days currencies amounts today from sum₀ i₀ sum i =
     (i ≤ length amounts) × (streamFrom rate today sum (flowsFrom days currencies amounts i (length amounts - i)) ≡ streamFrom rate today (whole (pos 0)) (flowsOf days currencies amounts))
 
 abbrev μ-loop : tie.MeasureT-loop
-μ-loop rate days currencies amounts today sum₀ i₀ sum i = length amounts - i
+μ-loop rate days currencies amounts today from sum₀ i₀ sum i = length amounts - i
 
 is-rate-requires : tie.Need-is-rate-requires Inv-loop μ-loop
 is-rate-requires c κs = search needs
@@ -32,16 +32,16 @@ returns : tie.Need-returns Inv-loop μ-loop
 unfolding discountedStream
 returns c = rw (sym (c .before .is-rate .ensures) ∙ not-true _ (c .if1 .taken))
 
+counted-from-requires : tie.Need-counted-from-requires Inv-loop μ-loop
+counted-from-requires c κs = search needs
+
 loop-holds : tie.Need-loop-holds Inv-loop μ-loop
 loop-holds c =
-    let a = c .before .before .before .before .before .args in
+    let a = c .before .before .before .before .before .before .args in
     (omega arith, ap₂ (streamFrom (a .rate) (a .today)) lit0 (flows-all (a .days .now) (a .currencies .now) (a .amounts .now)))
 
-flow-at-requires : tie.Need-flow-at-requires Inv-loop μ-loop
-flow-at-requires c κs = search needs
-
-flow-added-requires : tie.Need-flow-added-requires Inv-loop μ-loop
-flow-added-requires c κs = search needs
+added-at-requires : tie.Need-added-at-requires Inv-loop μ-loop
+added-at-requires c κs = search needs
 
 enum-known-x : tie.Need-enum-known-x Inv-loop μ-loop
 enum-known-x c = search needs
@@ -53,9 +53,9 @@ returns-2 : tie.Need-returns-2 Inv-loop μ-loop
 unfolding discountedStream
 returns-2 c =
     let a = c .before .before .before .before .before .before .before .before .before .before .before .before .args in
-    let left = rw (flows-more (a .days .now) (a .currencies .now) (a .amounts .now) (c .before .before .before .before .before .before .loop .i) (length (a .amounts .now)) (c .before .before .before .before .before .loop-test .taken)) at (c .before .before .before .before .before .before .loop .inv .1) in
+    let left = rw (flows-more (a .days .now) (a .currencies .now) (a .amounts .now) (c .before .before .before .before .before .loop .i) (length (a .amounts .now)) (c .before .before .before .before .loop-test .taken)) at (c .before .before .before .before .before .loop .inv .1) in
     rw (sym (c .before .before .before .before .before .before .before .before .is-rate .ensures) ∙ not-false _ (c .before .before .before .before .before .before .before .if1 .left))
-    (stream-ends (a .rate) (a .today) _ _ _ _ _ (rw (← c .before .before .before .before .flow-at .ensures) (ap amountOutcome (sym (c .before .n .given .1)) ∙ c .before .before .before .flow-added .ensures)) left)
+    (stream-ends (a .rate) (a .today) _ _ _ _ _ (ap amountOutcome (sym (c .before .n .given .1)) ∙ c .before .before .before .added-at .ensures) left)
 
 add-i : tie.Need-add-i Inv-loop μ-loop
 add-i c = search needs
@@ -66,15 +66,15 @@ loop-less c = search needs
 loop-again : tie.Need-loop-again Inv-loop μ-loop
 loop-again c =
     let a = c .before .before .before .before .before .before .before .before .before .before .before .before .args in
-    let left = rw (flows-more (a .days .now) (a .currencies .now) (a .amounts .now) (c .before .before .before .before .before .before .loop .i) (length (a .amounts .now)) (c .before .before .before .before .before .loop-test .taken)) at (c .before .before .before .before .before .before .loop .inv .1) in
-    (omega arith, stream-on (a .rate) (a .today) _ _ _ _ _ (rw (← c .before .before .before .before .flow-at .ensures) (ap amountOutcome (sym (c .before .x .given .1)) ∙ c .before .before .before .flow-added .ensures)) left)
+    let left = rw (flows-more (a .days .now) (a .currencies .now) (a .amounts .now) (c .before .before .before .before .before .loop .i) (length (a .amounts .now)) (c .before .before .before .before .loop-test .taken)) at (c .before .before .before .before .before .loop .inv .1) in
+    (omega arith, stream-on (a .rate) (a .today) _ _ _ _ _ (ap amountOutcome (sym (c .before .x .given .1)) ∙ c .before .before .before .added-at .ensures) left)
 
 returns-3 : tie.Need-returns-3 Inv-loop μ-loop
 unfolding discountedStream
 returns-3 c =
-    let a = c .before .before .before .before .before .before .before .args in
+    let a = c .before .before .before .before .before .before .before .before .args in
     let left = rw (flows-none (a .days .now) (a .currencies .now) (a .amounts .now) (c .before .loop .i) (length (a .amounts .now)) (c .loop-test .left)) at (c .before .loop .inv .1) in
-    rw (sym (c .before .before .before .is-rate .ensures) ∙ not-false _ (c .before .before .if1 .left)) (sym (stream-none (a .rate) (a .today) _) ∙ left)
+    rw (sym (c .before .before .before .before .is-rate .ensures) ∙ not-false _ (c .before .before .before .if1 .left)) (sym (stream-none (a .rate) (a .today) _) ∙ left)
 
 pub discount-listed-flows-spec : {M : Type 1} → statement M
 discount-listed-flows-spec =
@@ -84,9 +84,9 @@ discount-listed-flows-spec =
     μ-loop
     is-rate-requires
     returns
+    counted-from-requires
     loop-holds
-    flow-at-requires
-    flow-added-requires
+    added-at-requires
     enum-known-x
     enum-known-n
     returns-2

@@ -1,0 +1,80 @@
+-- Under a rule that counts days a flow is valued by its serial day: no date is taken. Assumes nothing.
+use Prim.Native.Nat.{ℕ, _-_, _≤_}
+use mathlib.Core.Path.{_≡_, refl, sym, ap, _∙_}
+use mathlib.Core.Bool.{true}
+use native.Mathlib.Omega.{arith}
+use lib.Dec.{leb}
+use lib.IntN.{ℤ, pos}
+use lib.Ieee.{Float, binary64, add, mul}
+use lib.Ieee.Scale.{finite}
+use borrow.Author.Tests.{leb-true, eqb-true}
+use Rattle.paper.specs.Outcome.{given, both}
+use Rattle.paper.proofs.Outcomes.{both-true}
+use Rattle.calendar.specs.Answers.{dateOf}
+use Rattle.calendar.specs.Dates.{dayNumber, theDate}
+use Rattle.calendar.specs.declared.Date.{Date}
+use Rattle.calendar.proofs.Dates.{date-yes, date-is, day-is, number-from, number-found, the-date-is}
+use Rattle.cash_amount.specs.Amounts.{isCurrency, isSameCurrency}
+use Rattle.cash_amount.specs.declared.Currency.{Currency}
+use Rattle.cash_flow.specs.Flows.{dateOn}
+use Rattle.day_fraction.specs.Fractions.{Span, over, days, bits, impossible}
+use Rattle.day_fraction.proofs.Differences.{diff-of, diff-pos}
+use Rattle.day_count_conv.specs.Conventions.{inBits, simpleFraction}
+use Rattle.day_count_conv.specs.declared.DayCountConv.{DayCountConv}
+use Rattle.day_count_conv.specs.declared.DayCountConv.the-variants as conv
+use Rattle.day_count_conv.proofs.Judged.{span-fraction}
+use Rattle.rates.specs.Rates.{none, factorOf, fractionTo, isOneCurrency, flowValue, flowAdded}
+use Rattle.rates.specs.declared.FlatRate.{FlatRate}
+use Rattle.listed_rates.specs.Counted.{yearDays, CountedFrom}
+
+same-currency : (a b : Currency) → isSameCurrency a b ≡ true → a ≡ b
+unfolding isSameCurrency
+same-currency a b e =
+    let h = both-true _ _ e in
+    let k = both-true _ _ (h .1) in
+    let x : a .first ≡ b .first = eqb-true _ _ (h .0) in
+    let y : a .second ≡ b .second = eqb-true _ _ (k .0) in
+    let z : a .third ≡ b .third = eqb-true _ _ (k .1) in
+    λ i. record { first = x i; second = y i; third = z i }
+
+-- a currency that is the rate's is one
+one-currency : (a b : Currency) → isCurrency a ≡ true → isSameCurrency a b ≡ true → isOneCurrency a b ≡ true
+unfolding isOneCurrency
+one-currency a b c s = rw (c, sym (ap isCurrency (same-currency a b s)) ∙ c, s)
+
+date-on : (n : ℕ) → 1 ≤ n → n ≤ 3652059 → dateOn n ≡ theDate n
+unfolding dateOn dateOf
+date-on n h k = rw (day-is (record { 0 = n }) h k)
+
+days-over : (rule : DayCountConv) (s e : Date) → 1 ≤ yearDays rule → Span s e → fractionTo rule s e ≡ given (over (days s e) (yearDays rule))
+unfolding fractionTo simpleFraction impossible bits
+days-over conv.Act365 s e h p = span-fraction inBits conv.Act365 s e none p refl
+days-over conv.Act360 s e h p = span-fraction inBits conv.Act360 s e none p refl
+days-over conv.Act365l s e h p = absurd (omega arith)
+days-over conv.D30_360 s e h p = absurd (omega arith)
+days-over conv.D30E360 s e h p = absurd (omega arith)
+days-over conv.ActActICMA s e h p = absurd (omega arith)
+
+module _ (rate : FlatRate) (today : Date) (from day : ℕ) (c : CountedFrom rate today from) (h : from ≤ day) (k : day ≤ 3652059) where
+  fraction-counted : fractionTo (rate .«day_count_conv») today (dateOn day) ≡ given (over (pos (day - from)) (yearDays (rate .«day_count_conv»)))
+  fraction-counted =
+      let j = c (omega arith) in
+      let l : 1 ≤ day = omega (arith, number-from today (date-yes today (j .2)), j .3) in
+      let n = number-found day l k in
+      let s : Span today (theDate day) = record { first = j .2; last = date-is (theDate day) (the-date-is day l k); order = omega (arith, n, j .3) } in
+      let d : days today (theDate day) ≡ pos (day - from) = diff-pos (diff-of (dayNumber (theDate day)) (dayNumber today)) (s .order) ∙ ap pos (omega (arith, n, j .3)) in
+      rw (date-on day l k) (days-over (rate .«day_count_conv») today (theDate day) (j .0) s ∙ ap (λ (z : ℤ). given (over z (yearDays (rate .«day_count_conv»)))) d)
+
+-- where a flow passes the tests of days, currency and amount nothing is refused, and this is added
+pub flow-counted : (rate : FlatRate) (today : Date) (sum : Float) (from day : ℕ) (currency : Currency) (amount : Float)
+    → CountedFrom rate today from
+    → both (leb from day) (both (leb day 3652059) (both (isSameCurrency (rate .currency) currency) (finite amount))) ≡ true
+    → flowAdded rate today sum (record { date = dateOn day; currency = currency; amount = amount }) ≡ given (add binary64 sum (mul binary64 (factorOf (rate .rate) (over (pos (day - from)) (yearDays (rate .«day_count_conv»)))) amount))
+unfolding flowAdded flowValue
+flow-counted rate today sum from day currency amount c e =
+    let a = both-true _ _ e in
+    let b = both-true _ _ (a .1) in
+    let d = both-true _ _ (b .1) in
+    let h : from ≤ day = leb-true _ _ (a .0) in
+    let k : day ≤ 3652059 = leb-true _ _ (b .0) in
+    rw (d .1, one-currency (rate .currency) currency (c (omega arith) .1) (d .0), fraction-counted rate today from day c h k)

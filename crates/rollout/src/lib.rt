@@ -5,7 +5,7 @@ ghost use Prim.Native.Nat.{_≤_};
 ghost use mathlib.Core.List.{_++_};
 ghost use lib.ListN.{length, take, drop, set};
 ghost use Rattle.room.specs.Room.{counted};
-ghost use Rattle.calendar.specs.Dates.{isDate};
+ghost use Rattle.calendar.specs.Dates.{isDate, dayNumber};
 ghost use Rattle.holidays.specs.Table.{ascending};
 ghost use Rattle.cash_flow.specs.Flows.{flowsOutcome};
 ghost use Rattle.rollout.specs.Rollout.{paid, noteFlows, RolloutPromise};
@@ -59,6 +59,18 @@ pub struct Taken {
     pub near: usize,
 }
 
+// The serial day of a date, of which another's is known: a date that did not move keeps its day.
+fn day_from(u: Date, t: Date, n: u32) -> u32
+    requires { ⌜ (isDate u ≡ true) × (n ≡ dayNumber t) ⌝ }
+    ensures { λ r. ⌜ r ≡ dayNumber u ⌝ }
+{
+    if calendar::is_same(u, t) {
+        n
+    } else {
+        calendar::number_of(u)
+    }
+}
+
 // An amount on the adjusted date.
 fn pay(note: Note, table: &[u32], near: usize, t: Date, amount: f64, next: Due) -> Taken
     requires { ⌜ (isDate t ≡ true) × (ascending (now table) ≡ true) ⌝ }
@@ -75,7 +87,8 @@ fn pay(note: Note, table: &[u32], near: usize, t: Date, amount: f64, next: Due) 
                 currency,
                 amount,
             };
-            let step = Step::Pay(calendar::number_of(u), flow, next);
+            let day = day_from(u, t, n);
+            let step = Step::Pay(day, flow, next);
             Taken { step, near: i }
         }
         DateAnswer::Refused(k) => {

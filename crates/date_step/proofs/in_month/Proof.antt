@@ -6,6 +6,7 @@ use native.Mathlib.Omega.{arith}
 use borrow.Author.Needs.{needs}
 use Rattle.calendar.specs.Dates.{monthDate}
 use Rattle.calendar.specs.declared.Date.{Date}
+use Rattle.gregorian.proofs.Months.{at-least}
 use Rattle.date_step.proofs.in_month.Statement.{statement}
 use Rattle.date_step.proofs.in_month.Tie as tie
 
@@ -21,14 +22,20 @@ length-of-month-requires c κs = search needs
 returns : tie.Need-returns
 unfolding monthDate
 returns c =
-    let a = c .before .before .args in
-    ap {B = Date} (λ (d : ℕ). record { year = a .index / 12 + 1; month = a .index % 12 + 1; day = d }) (omega (arith, c .before .length-of-month .ensures))
+    let a = c .before .args in
+    ap {B = Date} (λ (d : ℕ). record { year = a .index / 12 + 1; month = a .index % 12 + 1; day = d }) (omega (arith, at-least (a .index / 12 + 1) (a .index % 12 + 1) (omega arith) (omega arith)))
 
 returns-2 : tie.Need-returns-2
 unfolding monthDate
 returns-2 c =
-    let a = c .before .before .args in
+    let a = c .before .before .before .args in
+    ap {B = Date} (λ (d : ℕ). record { year = a .index / 12 + 1; month = a .index % 12 + 1; day = d }) (omega (arith, c .before .length-of-month .ensures))
+
+returns-3 : tie.Need-returns-3
+unfolding monthDate
+returns-3 c =
+    let a = c .before .before .before .args in
     ap {B = Date} (λ (d : ℕ). record { year = a .index / 12 + 1; month = a .index % 12 + 1; day = d }) (omega (arith, c .before .length-of-month .ensures))
 
 pub in-month-spec : {M : Type 1} → statement M
-in-month-spec = tie.close (tie.spec add-year add-month length-of-month-requires returns returns-2)
+in-month-spec = tie.close (tie.spec add-year add-month returns length-of-month-requires returns-2 returns-3)

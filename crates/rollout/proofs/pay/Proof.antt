@@ -25,10 +25,10 @@ adjust-at-requires c κs = search needs
 enum-known-u : tie.Need-enum-known-u
 enum-known-u c = search needs
 
-number-of-requires-2 : tie.Need-number-of-requires-2
-number-of-requires-2 c κs =
+day-from-requires : tie.Need-day-from-requires
+day-from-requires c κs =
     let s : tie.Start = c .before .before .before .before .before .before .before .before in
-    adjusted-dated (s .args .note .«business_day_rule») (s .args .t) _ (s .args .table .now) (s .pre .0) (on (c .before .before))
+    (adjusted-dated (s .args .note .«business_day_rule») (s .args .t) _ (s .args .table .now) (s .pre .0) (on (c .before .before)), c .before .before .before .before .before .before .number-of .ensures)
 
 enum-known-k : tie.Need-enum-known-k
 enum-known-k c = search needs
@@ -36,7 +36,7 @@ enum-known-k c = search needs
 returns : tie.Need-returns
 returns c =
     let s : tie.Start = c .before .before .before .before .before .before .before .before .before in
-    pay-paid (s .args .note) (s .args .table .now) (s .args .t) (s .args .amount) (s .args .next) _ _ (on (c .before .before .before)) (c .number-of2 .ensures)
+    pay-paid (s .args .note) (s .args .table .now) (s .args .t) (s .args .amount) (s .args .next) _ _ (on (c .before .before .before)) (c .day-from .ensures)
 
 returns-2 : tie.Need-returns-2
 returns-2 c =
@@ -51,7 +51,7 @@ pay-spec =
     first-near-requires
     adjust-at-requires
     enum-known-u
-    number-of-requires-2
+    day-from-requires
     enum-known-k
     returns
     returns-2)

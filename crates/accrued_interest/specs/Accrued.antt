@@ -12,10 +12,8 @@ use Rattle.calendar.specs.declared.Date.{Date}
 use Rattle.time_period.specs.Steps.{absent, stepped}
 use Rattle.day_fraction.specs.Exact.{Exact}
 use Rattle.day_fraction.specs.Fractions.{whole, over}
-use Rattle.day_count_conv.specs.Conventions.{fractionOutcome, Values, yearFraction, Agree}
+use Rattle.day_count_conv.specs.Conventions.{fractionOutcome, rolledFrom, Values, yearFraction, Agree}
 use Rattle.day_count_conv.specs.Conventions as fraction
-use Rattle.day_count_conv.specs.declared.RollDate.the-variants as roll-date
-use Rattle.day_count_conv.specs.declared.RollPeriod.the-variants as roll-period
 use Rattle.day_count_conv.specs.declared.Extras.{Extras}
 use Rattle.day_count_conv.specs.declared.YearFraction.{YearFraction}
 use Rattle.bond.specs.Notes.{noteChecks, firstCouponEnd, interestOn, exactInterest}
@@ -71,7 +69,7 @@ pub record Amounts (A : Type 0) : Type 0 where
 
 -- the first period here rolls from the issue date, and so each from its start
 abbrev pub rolled : Note → CouponPeriod → Extras
-rolled n p = record { roll = roll-date.Date (p .start); period = roll-period.Period (n .period) }
+rolled n p = rolledFrom (p .start) (n .period)
 
 unfoldable pub amountDue : {A : Type 0} → Amounts A → Note → Date → CouponPeriod → Outcome A
 amountDue v n today p =

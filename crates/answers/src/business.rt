@@ -17,11 +17,11 @@ fn of_days(verb: u8, f: &[u8], table: &[u32]) -> Told {
     let k = fields::word(f, 4);
     match verb {
         16 => Told::Bool(holidays::is_table(table)),
-        17 => business(holidays::is_business_day(d, table)),
-        18 => line::day(holidays::next_bday(d, table)),
-        19 => line::day(holidays::prev_bday(d, table)),
-        20 => line::day(holidays::bdays_later(d, k, table)),
-        _ => line::day(holidays::bdays_earlier(d, k, table)),
+        17 => business(business_days::is_business_day(d, table)),
+        18 => line::day(business_days::next_bday(d, table)),
+        19 => line::day(business_days::prev_bday(d, table)),
+        20 => line::day(business_days::bdays_later(d, k, table)),
+        _ => line::day(business_days::bdays_earlier(d, k, table)),
     }
 }
 

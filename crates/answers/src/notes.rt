@@ -124,7 +124,7 @@ fn put_terms(note: Note, out: &mut [u8], at: usize) -> usize {
     let second = line::put_coupon(note.coupon_date, out, first);
     let third = line::put_byte(b' ', out, second);
     let fourth = line::put_period(note.period, out, third);
-    let fifth = line::put_word(day_count_conv::code_of(convention), out, fourth);
+    let fifth = line::put_word(convention_codes::code_of(convention), out, fourth);
     line::put_word(adjustment_code(rule), out, fifth)
 }
 

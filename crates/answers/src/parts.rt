@@ -20,7 +20,7 @@ fn count(verb: u8, f: &[u8]) -> u64 {
         63 => text::magnitude(fields::signed(f, 0)) as u64,
         64 => text::signed_length(fields::signed(f, 0)) as u64,
         69 => big_digits::leading_zeros(f) as u64,
-        _ => day_count_conv::code_of(fields::convention(f, 0)) as u64,
+        _ => convention_codes::code_of(fields::convention(f, 0)) as u64,
     }
 }
 

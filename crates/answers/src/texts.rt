@@ -18,7 +18,7 @@ fn frequency(a: FrequencyAnswer) -> Told {
 
 fn code(a: ConventionAnswer) -> Told {
     match a {
-        ConventionAnswer::Convention(rule) => Told::Number(day_count_conv::code_of(rule) as u64),
+        ConventionAnswer::Convention(rule) => Told::Number(convention_codes::code_of(rule) as u64),
         ConventionAnswer::Refused(k) => Told::Refused(k),
     }
 }
@@ -60,7 +60,7 @@ pub(crate) fn told(verb: u8, f: &[u8]) -> Told {
         23 => line::period(period_text::read_period(f)),
         31 => line::coupon(coupon_text::read_coupon_date(f)),
         32 => line::coupon(coupon_date::new_coupon_date(fields::word(f, 0), fields::word(f, 4))),
-        34 => code(day_count_conv::convention_of(fields::word(f, 0))),
+        34 => code(convention_codes::convention_of(fields::word(f, 0))),
         43 => length(cash_flow_text::cash_flow_length(fields::flow(f, 0))),
         55 => number(reading::read_u32(f, paper::INVALID_PERIOD)),
         56 => signed(reading::read_i32(f, paper::INVALID_PERIOD)),

@@ -1,19 +1,18 @@
 -- Dates and serial days: the bounds of a date, and that each is found again from the other.
 -- Assumes nothing.
-use Prim.Native.Nat.{ℕ, zero, suc, _+_, _-_, _*_, _/_, _%_, _≤_, _<_}
+use Prim.Native.Nat.{ℕ, suc, _+_, _-_, _≤_, _<_}
 use mathlib.Core.Path.{_≡_, refl, sym, _∙_, ap}
 use mathlib.Core.Bool.{Bool, true, false}
 use native.Mathlib.Omega.{arith}
-use native.Mathlib.Numerals.{add-one}
 use borrow.Author.Tests.{le-leb, leb-true}
 use Rattle.paper.proofs.Outcomes.{both-true}
 use Rattle.gregorian.specs.Gregorian.{monthLength, yearLength, beforeYear, beforeMonth, unitOf}
 use Rattle.calendar.specs.Dates.{isDate, isDay, dayNumber, yearOf, inYear, theDate}
 use Rattle.calendar.specs.declared.Day.{Day}
 use Rattle.calendar.specs.declared.Date.{Date}
-use Rattle.gregorian.proofs.Months.{is-month, year-of-months, year-most, before-first, begins-by, begins-from}
+use Rattle.gregorian.proofs.Months.{is-month, year-of-months, before-first}
 use Rattle.gregorian.proofs.Counting.{before-suc, before-mono, unit-at, unit-in, Falls}
-use Rattle.gregorian.proofs.Years.{last-day, before-one, cycle}
+use Rattle.gregorian.proofs.Years.{last-day, before-one}
 
 pub record IsDate (t : Date) : Type 0 where
   pub year-from : 1 ≤ t .year
@@ -88,7 +87,7 @@ year-found t h =
     unit-at yearLength 9999 1 (t .year) _ (h .year-from) (omega arith) (omega (arith, before-one))
     (omega (arith, before-one, within-year t h, before-suc yearLength (t .year)))
 
-pub in-year-at : (y m d : ℕ) → 1 ≤ m → m ≤ 12 → 1 ≤ d → d ≤ monthLength y m → inYear y (beforeMonth y m + d) ≡ record { year = y; month = m; day = d }
+in-year-at : (y m d : ℕ) → 1 ≤ m → m ≤ 12 → 1 ≤ d → d ≤ monthLength y m → inYear y (beforeMonth y m + d) ≡ record { year = y; month = m; day = d }
 unfolding inYear
 in-year-at y m d h k p q =
     let e = beforeMonth y m + d in
@@ -159,59 +158,3 @@ unfolding theDate dayNumber inYear
 number-found n h k =
     let s = day-in-year n h k in
     omega (arith, s .after, in-year-number (yearOf n) (n - beforeYear (yearOf n)) (s .from) (omega (arith, s .after)) (s .rest))
-
-year-at : (n y : ℕ) → 1 ≤ y → y ≤ 9999 → beforeYear y < n → n ≤ beforeYear (suc y) → yearOf n ≡ y
-unfolding yearOf
-year-at n y h k p q = unit-at yearLength 9999 1 y n h (omega arith) (omega (arith, before-one)) (omega (arith, before-one))
-
--- the year of a serial day, from its cycle and its year within the cycle
-pub year-in-cycle : (n r : ℕ) → 1 ≤ n → n ≤ 3652059 → 1 ≤ r → beforeYear r < (n - 1) % 146097 + 1 → (n - 1) % 146097 + 1 ≤ beforeYear (suc r) → (n - 1) / 146097 * 400 + r ≡ yearOf n
-year-in-cycle n zero h l f p q = absurd (omega arith)
-year-in-cycle n (suc k) h l f p q =
-    let c = (n - 1) / 146097 in
-    let y = c * 400 + suc k in
-    let e : y ≡ 400 * c + suc k = omega arith in
-    let g : suc y ≡ 400 * c + suc (suc k) = omega arith in
-    let a : beforeYear y ≡ 146097 * c + beforeYear (suc k) = ap beforeYear e ∙ cycle c k in
-    let b : beforeYear (suc y) ≡ 146097 * c + beforeYear (suc (suc k)) = ap beforeYear g ∙ cycle c (suc k) in
-    let late : 10000 ≤ y → ⊥ = λ m. omega (arith, before-mono yearLength 10000 y m, last-day) in
-    sym (year-at n y (omega arith) (omega (arith, late)) (omega arith) (omega arith))
-
--- the month of the e-th day of a year is the guessed one, or the one after it
-record Guessed (y e : ℕ) : Type 0 where
-  pub started : beforeMonth y ((e - 1) / 32 + 1) < e
-  pub next : beforeMonth y ((e - 1) / 32 + 1 + 1) < e → ((e - 1) / 32 < 11) × (e ≤ beforeMonth y ((e - 1) / 32 + 3))
-
-guessed : (y e : ℕ) → 1 ≤ y → 1 ≤ e → e ≤ yearLength y → Guessed y e
-guessed y e h p q =
-    let k = (e - 1) / 32 in
-    let s : k + 1 ≡ suc k = omega arith in
-    let last : 11 ≤ k → beforeMonth y (k + 1 + 1) < e → ⊥ =
-    λ l u. omega (arith, before-mono (monthLength y) 13 (k + 1 + 1) (omega arith), year-of-months y h) in
-    record {
-      started = rw s (omega (arith, begins-by y k));
-      next = λ u. let g : 11 ≤ k → ⊥ = λ l. last l u in let f : k < 11 = omega (arith, g) in (f, omega (arith, begins-from y k f));
-    }
-
--- the e-th day of a year, in the month guessed or in the next
-module _ (y e : ℕ) (p : (1 ≤ y) × (1 ≤ e) × (e ≤ yearLength y)) where
-  pub guess-started : beforeMonth y ((e - 1) / 32 + 1) < e
-  guess-started = guessed y e (p .0) (p .1) (p .2) .started
-
-  pub in-guessed : (f u : ℕ) → f ≡ beforeMonth y ((e - 1) / 32 + 1) → u ≡ beforeMonth y ((e - 1) / 32 + 1 + 1) → e ≤ u → record { year = y; month = (e - 1) / 32 + 1; day = e - f } ≡ inYear y e
-  in-guessed f u i j l =
-      let m = (e - 1) / 32 + 1 in
-      let s : m + 1 ≡ suc m = add-one m in
-      let g = guess-started in
-      let t : m ≤ 12 = omega (arith, year-most y, p .2) in
-      let d : e - f ≤ monthLength y m = omega (arith, before-suc (monthLength y) m, ap (beforeMonth y) s) in
-      sym (in-year-at y m (e - f) (omega arith) t (omega arith) d) ∙ ap (inYear y) (omega arith)
-
-  pub in-next : (u : ℕ) → u ≡ beforeMonth y ((e - 1) / 32 + 1 + 1) → u < e → record { year = y; month = (e - 1) / 32 + 1 + 1; day = e - u } ≡ inYear y e
-  in-next u j l =
-      let k = (e - 1) / 32 in
-      let m = k + 1 + 1 in
-      let g = guessed y e (p .0) (p .1) (p .2) .next (omega arith) in
-      let s : k + 3 ≡ suc m = omega arith in
-      let d : e - u ≤ monthLength y m = omega (arith, g .1, before-suc (monthLength y) m, ap (beforeMonth y) s) in
-      sym (in-year-at y m (e - u) (omega arith) (omega (arith, g .0)) (omega arith) d) ∙ ap (inYear y) (omega arith)

@@ -1,9 +1,9 @@
 // The calendar of document 01: serial days and dates, each found from the other.
 ghost use mathlib.Core.Path.{_≡_};
 ghost use mathlib.Core.Bool.{true};
-ghost use Prim.Native.Nat.{_+_, _-_, _*_, _/_, _≤_};
-ghost use Rattle.gregorian.specs.Gregorian.{yearLength};
-ghost use Rattle.calendar.specs.Dates.{isDate, isDay, dayNumber, yearOf, inYear, theDate, isBefore, isSame};
+ghost use Prim.Native.Nat.{suc, _+_, _-_, _*_, _/_, _≤_, _<_};
+ghost use Rattle.gregorian.specs.Gregorian.{yearLength, beforeYear};
+ghost use Rattle.calendar.specs.Dates.{isDate, isDay, dayNumber, theDate, isBefore, isSame};
 ghost use Rattle.calendar.specs.Answers.{DayOfPromise, DateOfPromise, WeekdayPromise, DaysBetweenPromise, DayAfterPromise};
 
 // A serial day: 1 is 0001-01-01, and 3652059 is 9999-12-31.
@@ -16,6 +16,12 @@ pub struct Date {
     pub year: u32,
     pub month: u32,
     pub day: u32,
+}
+
+// A day of a year that begins in March, from 0.
+struct MarchDay {
+    year: u32,
+    day: u32,
 }
 
 pub enum DayAnswer {
@@ -43,24 +49,22 @@ const LAST_YEAR: u32 = 9999;
 
 const LAST_DAY: u32 = 3652059;
 
-const DAYS_OF_CYCLE: u32 = 146097;
-
 pub fn is_date(t: Date) -> bool
     ensures { λ r. ⌜ r ≡ isDate t ⌝ }
 {
-    if t.year < 1 {
+    if t.month < 1 {
         return false;
     }
-    if LAST_YEAR < t.year {
+    if 12 < t.month {
         return false;
     }
     if t.day < 1 {
         return false;
     }
-    if t.month < 1 {
+    if t.year < 1 {
         return false;
     }
-    if 12 < t.month {
+    if LAST_YEAR < t.year {
         return false;
     }
     // Every month has 28 days.
@@ -104,13 +108,14 @@ pub fn is_same(a: Date, b: Date) -> bool
     a.day == b.day
 }
 
-// The days of so many years, and of so many months from March on: a leap day ends such a year, so that no month asks for it.
-fn from_march(years: u32, months: u32) -> u32
-    requires { ⌜ (years ≤ 9999) × (months ≤ 11) ⌝ }
-    ensures { λ r. ⌜ r ≡ 365 * years + years / 4 - years / 100 + years / 400 + (153 * months + 2) / 5 ⌝ }
+// The days from March of year 0 to a month of a year that begins in March: a leap day ends such a year, so that no month asks for it. Its months are 3 to 14.
+fn from_march(year: u32, month: u32) -> u32
+    requires { ⌜ (year ≤ 9999) × (3 ≤ month) × (month ≤ 14) ⌝ }
+    ensures { λ r. ⌜ r ≡ 365 * year + year / 4 - year / 100 + year / 400 + (153 * (month - 3) + 2) / 5 ⌝ }
 {
-    let centuries = years / 100;
-    365 * years + years / 4 - centuries + centuries / 4 + (153 * months + 2) / 5
+    // A hundredth, and the days before the month, without a division.
+    let centuries = 5243 * year / 524288;
+    1461 * year / 4 - centuries + centuries / 4 + (979 * month - 2919) / 32
 }
 
 // Inner: the serial day of a date that is already judged. From March to the new year there are 306 days.
@@ -118,10 +123,9 @@ pub fn number_of(t: Date) -> u32
     requires { ⌜ isDate t ≡ true ⌝ }
     ensures { λ r. ⌜ r ≡ dayNumber t ⌝ }
 {
-    if t.month < 3 {
-        return from_march(t.year - 1, t.month + 9) + t.day - 306;
-    }
-    from_march(t.year, t.month - 3) + t.day - 306
+    let year = if t.month < 3 { t.year - 1 } else { t.year };
+    let month = if t.month < 3 { t.month + 12 } else { t.month };
+    from_march(year, month) + t.day - 306
 }
 
 pub fn day_of(t: Date) -> DayAnswer
@@ -135,33 +139,18 @@ pub fn day_of(t: Date) -> DayAnswer
     }
 }
 
-// The year of a serial day: the cycles before it, and the year within its own.
-fn year_of(n: u32) -> u32
+// The year of a serial day, and the day in it from 0, of years that begin in March. Counted in quarters of a day; each century but every fourth lacks a leap day,
+// and with these given back every year has 1461 quarters.
+fn march_day(n: u32) -> MarchDay
     requires { ⌜ (1 ≤ n) × (n ≤ 3652059) ⌝ }
-    ensures { λ r. ⌜ r ≡ yearOf n ⌝ }
+    ensures { λ r. ⌜ (n + 305 ≡ beforeYear (suc (r .year)) + r .day) × (r .day < yearLength (suc (r .year))) ⌝ }
 {
-    let e = (n - 1) % DAYS_OF_CYCLE + 1;
-    (n - 1) / DAYS_OF_CYCLE * 400 + gregorian::year_in_cycle(e)
-}
-
-// The e-th day of a year. No month has more than 32 days, and none less than 28: the month guessed is the right one or the one before it.
-fn in_year(year: u32, e: u32) -> Date
-    requires { ⌜ (1 ≤ year) × (1 ≤ e) × (e ≤ yearLength year) ⌝ }
-    ensures { λ r. ⌜ r ≡ inYear year e ⌝ }
-{
-    let month = (e - 1) / 32 + 1;
-    let until = gregorian::days_before_month(year, month + 1);
-    if until < e {
-        return Date {
-            year,
-            month: month + 1,
-            day: e - until,
-        };
-    }
-    Date {
-        year,
-        month,
-        day: e - gregorian::days_before_month(year, month),
+    let quarters = 4 * (n + 305) + 3;
+    let centuries = quarters / 146097;
+    let even = quarters + 4 * (centuries - centuries / 4);
+    MarchDay {
+        year: even / 1461,
+        day: even % 1461 / 4,
     }
 }
 
@@ -170,8 +159,23 @@ pub fn date_on(n: u32) -> Date
     requires { ⌜ (1 ≤ n) × (n ≤ 3652059) ⌝ }
     ensures { λ r. ⌜ r ≡ theDate n ⌝ }
 {
-    let year = year_of(n);
-    in_year(year, n - gregorian::days_before_year(year))
+    let at = march_day(n);
+    // The month and the day in it are the two parts of one number.
+    let both = 2141 * at.day + 197913;
+    let month = both / 65536;
+    let day = both % 65536 / 2141 + 1;
+    if 12 < month {
+        return Date {
+            year: at.year + 1,
+            month: month - 12,
+            day,
+        };
+    }
+    Date {
+        year: at.year,
+        month,
+        day,
+    }
 }
 
 pub fn date_of(d: Day) -> DateAnswer

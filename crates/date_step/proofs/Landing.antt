@@ -30,15 +30,19 @@ module _ (last : ℕ) where
   below (negsuc k) e = refl
 
   -- nor past the last
-  pub beyond : (z : ℤ) → T (nonNeg z) → last < natAbs z → refused 1 ≡ landing last z
+  pub beyond : (z : ℤ) → ltZ (pos last) z ≡ true → refused 1 ≡ landing last z
   unfolding landing
-  beyond (pos k) e h = rw (lt-leb k last h)
-  beyond (negsuc k) e h = absurd e
+  beyond (pos k) e = rw (lt-leb k last (ltb-true last k e))
+  beyond (negsuc k) e = let x : _≡_ {A = ℕ} 0 1 = cc e in absurd (omega arith)
 
-  pub lands : (z : ℤ) → T (nonNeg z) → natAbs z ≤ last → given (natAbs z) ≡ landing last z
+  pub lands : (z : ℤ) → T (nonNeg z) → ltZ (pos last) z ≡ false → given (natAbs z) ≡ landing last z
   unfolding landing
-  lands (pos k) e h = rw (le-leb k last h)
-  lands (negsuc k) e h = absurd e
+  lands (pos k) t e = rw (le-leb k last (ltb-false last k e))
+  lands (negsuc k) t e = absurd t
+
+  pub within : (z : ℤ) → T (nonNeg z) → ltZ (pos last) z ≡ false → natAbs z ≤ last
+  within (pos k) t e = ltb-false last k e
+  within (negsuc k) t e = absurd t
 
   -- what is reached lies up to the last
   pub landed-to : (z : ℤ) (i : ℕ) → given i ≡ landing last z → i ≤ last
@@ -62,12 +66,15 @@ module _ (last : ℕ) where
     far-on (pos k) e = let l : most < k = ltb-true most k e in rw (lt-leb (a + k) last (omega arith))
     far-on (negsuc k) e = let x : _≡_ {A = ℕ} 0 1 = cc e in absurd (omega arith)
 
--- any other move's sum fits 64 bits
-pub near-fits : (a most : ℕ) (n : ℤ) → a ≤ most → most < 2 ^ 32 → ltZ n (negsuc (most - 1)) ≡ false → ltZ (pos most) n ≡ false → SFits w64 (pos a +ℤ n)
-near-fits a most (pos k) h m p q = let l : k ≤ most = ltb-false most k q in record { sfits = omega arith }
-near-fits a most (negsuc k) h m p q =
-    let l : k ≤ most - 1 = ltb-false (most - 1) k p in
-    record { sfits = either (ltb a (suc k)) (suc k - suc a) (a - suc k) (2 ^ 63) (omega arith) (omega arith) }
+-- any other move is short
+pub near : (n : ℤ) → ltZ n (negsuc 3652058) ≡ false → ltZ (pos 3652059) n ≡ false → mag n < 17179869184
+near (pos k) p q = let l : k ≤ 3652059 = ltb-false 3652059 k q in omega arith
+near (negsuc k) p q = let l : k ≤ 3652058 = ltb-false 3652058 k p in omega arith
+
+-- and a short one's sum fits 64 bits
+pub sum-fits : (a : ℕ) (n : ℤ) → a ≤ 3652059 → mag n < 17179869184 → SFits w64 (pos a +ℤ n)
+sum-fits a (pos k) h m = record { sfits = omega arith }
+sum-fits a (negsuc k) h m = record { sfits = either (ltb a (suc k)) (suc k - suc a) (a - suc k) (2 ^ 63) (omega arith) (omega arith) }
   where
     either : (b : Bool) (x y z : ℕ) → x < z → y < z → mag (cond b (negsuc x) (pos y)) < z
     either true x y z h l = h
@@ -77,20 +84,15 @@ pub not-below : (z : ℤ) → ltZ z (pos 0) ≡ false → T (nonNeg z)
 not-below (pos k) e = tt
 not-below (negsuc k) e = let x : _≡_ {A = ℕ} 0 1 = cc e in absurd (omega arith)
 
-pub small : (a most : ℕ) (n : ℤ) → a ≤ most → ltZ (pos most) n ≡ false → T (nonNeg (pos a +ℤ n)) → natAbs (pos a +ℤ n) ≤ most + most
-small a most (pos k) h q t = let l : k ≤ most = ltb-false most k q in omega arith
-small a most (negsuc k) h q t = either (ltb a (suc k)) (λ e. ltb-true a (suc k) e) t refl
-  where
-    either : (b : Bool) → (b ≡ true → a < suc k) → T (nonNeg (cond b (negsuc (suc k - suc a)) (pos (a - suc k)))) → ltb a (suc k) ≡ b → natAbs (cond b (negsuc (suc k - suc a)) (pos (a - suc k))) ≤ most + most
-    either true f t e = absurd t
-    either false f t e = omega arith
-
 -- a 32-bit number, widened
 pub widened : (n : ℤ) → SFits w32 n → toZ w64 (ofZ w64 (toZ w32 (ofZ w32 n))) ≡ n
 widened n f = ap (λ (z : ℤ). toZ w64 (ofZ w64 z)) (toZ-ofZ f) ∙ toZ-ofZ (sfits-widen tt f)
 
 pub wide-fits : (n : ℤ) → SFits w32 n → SFits w64 (toZ w32 (ofZ w32 n))
 wide-fits n f = subst (SFits w64) (sym (toZ-ofZ f)) (sfits-widen tt f)
+
+pub wide-short : (n : ℤ) → SFits w32 n → mag (toZ w64 (ofZ w64 (toZ w32 (ofZ w32 n)))) < 17179869184
+wide-short n f = rw (widened n f) (omega (arith, f .sfits))
 
 -- the sum as the machine computes it
 module _ (a : ℕ) (n : ℤ) (small : a < 2 ^ 63) (fits : SFits w64 n) where

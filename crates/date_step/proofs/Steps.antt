@@ -1,13 +1,14 @@
 -- What a step of months, years or days leads to.
 -- Assumes nothing.
-use Prim.Native.Nat.{ℕ, _+_, _≤_, _<_, min}
-use mathlib.Core.Path.{_≡_, sym, _∙_, ap, subst}
+use Prim.Native.Nat.{ℕ, zero, suc, _+_, _-_, _≤_, _<_, min}
+use mathlib.Core.Path.{_≡_, refl, sym, _∙_, ap, subst}
 use mathlib.Core.Bool.{true}
 use native.Mathlib.Omega.{arith}
+use native.Mathlib.Decide.{decLt}
 use lib.Dec.{leb}
-use lib.IntN.{ℤ, pos, negsuc, _+ℤ_}
-use borrow.Author.Tests.{le-leb, leb-true}
-use Rattle.paper.specs.Outcome.{given}
+use lib.IntN.{ℤ, pos, negsuc, sucℤ, _+ℤ_, sucℤ-+ℤ}
+use borrow.Author.Tests.{le-leb, lt-leb, leb-true}
+use Rattle.paper.specs.Outcome.{given, unless, both, andThen}
 use Rattle.paper.proofs.Outcomes.{given-injective, given-not-refused, unless-given, then-given}
 use Rattle.gregorian.specs.Gregorian.{monthLength}
 use Rattle.calendar.specs.Dates.{isDate, isDay, dayNumber, theDate, monthIndex, monthDate}
@@ -88,6 +89,25 @@ years-on t n u e =
       month = ap (λ (w : Date). w .month) (sym q);
       day = ap (λ (w : Date). w .day) (sym q);
     }
+
+-- days counted from 0: one that lands there has a date, and none other
+from-zero : (z : ℤ) → andThen (landing 3652058 z) (λ i. given (theDate (suc i))) ≡ andThen (landing 3652059 (sucℤ z)) (λ k. dateOf (record { 0 = k }))
+unfolding landing dateOf isDay
+from-zero (pos k) = by (decLt 3652058 k)
+  where
+    by : Dec (3652058 < k) → andThen (unless (leb k 3652058) 1 (given k)) (λ i. given (theDate (suc i))) ≡ andThen (unless (leb (suc k) 3652059) 1 (given (suc k))) (λ i. unless (both (leb 1 i) (leb i 3652059)) 1 (given (theDate i)))
+    by (yes l) = rw (lt-leb k 3652058 l, lt-leb (suc k) 3652059 (omega arith))
+    by (no l) =
+        let e = le-leb (suc k) 3652059 (omega arith) in
+        rw (le-leb k 3652058 (omega arith), e, le-leb 1 (suc k) (omega arith), e)
+from-zero (negsuc zero) = refl
+from-zero (negsuc (suc k)) = refl
+
+pub days-from-zero : (t : Date) (n : ℤ) → 1 ≤ dayNumber t → andThen (landing 3652058 (pos (dayNumber t - 1) +ℤ n)) (λ i. given (theDate (suc i))) ≡ daysLater t n
+unfolding daysLater
+days-from-zero t n h =
+    let e : suc (dayNumber t - 1) ≡ dayNumber t = omega arith in
+    from-zero (pos (dayNumber t - 1) +ℤ n) ∙ ap (λ (z : ℤ). andThen (landing 3652059 z) (λ k. dateOf (record { 0 = k }))) (sym (sucℤ-+ℤ (pos (dayNumber t - 1)) n) ∙ ap (λ (k : ℕ). pos k +ℤ n) e)
 
 -- n days on: the serial day moves by n
 pub record DaysOn (t : Date) (n : ℤ) (u : Date) : Type 0 where

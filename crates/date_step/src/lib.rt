@@ -1,18 +1,18 @@
 // Dates some months, years or days on: every signed number is answered.
 ghost use mathlib.Core.Path.{_≡_};
 ghost use mathlib.Core.Bool.{true};
-ghost use Prim.Native.Nat.{_≤_};
+ghost use Prim.Native.Nat.{_≤_, _<_};
 ghost use lib.IntN.{pos, _+ℤ_};
+ghost use lib.Signed.{mag};
 ghost use Rattle.calendar.specs.Dates.{isDate, monthDate};
 ghost use Rattle.calendar.specs.Answers.{dateOutcome};
 ghost use Rattle.date_step.specs.Steps.{placeOutcome, landing, monthsLater, existingDate, yearsLater, daysLater, AddMonthsPromise, AddYearsPromise, AddDaysPromise};
 use calendar::Date;
 use calendar::DateAnswer;
-use calendar::Day;
 
 const LAST_YEAR: u32 = 9999;
 
-const LAST_DAY: u32 = 3652059;
+const LAST_DAY_INDEX: u32 = 3652058;
 
 const LAST_MONTH_INDEX: u32 = 119987;
 
@@ -21,26 +21,20 @@ enum PlaceAnswer {
     Refused(u32),
 }
 
-// Where a signed move leads from a number, up to the last: the one place where signs are met.
+// Where a signed move leads from a number, up to the last: the one place where signs are met. No move is longer than seven times an i32, so that the sum fits.
 fn land(at: u32, n: i64, last: u32) -> PlaceAnswer
-    requires { ⌜ (at ≤ 3652059) × (last ≤ 3652059) ⌝ }
+    requires { ⌜ (at ≤ 3652059) × (last ≤ 3652059) × (mag n < 17179869184) ⌝ }
     ensures { λ r. ⌜ placeOutcome r ≡ landing last (pos at +ℤ n) ⌝ }
 {
-    if n < -3652059 {
-        return PlaceAnswer::Refused(paper::INVALID_DATE);
-    }
-    if 3652059 < n {
-        return PlaceAnswer::Refused(paper::INVALID_DATE);
-    }
     let to = at as i64 + n;
     if to < 0 {
         return PlaceAnswer::Refused(paper::INVALID_DATE);
     }
-    let place = to as u32;
-    if last < place {
+    let end = last as i64;
+    if end < to {
         return PlaceAnswer::Refused(paper::INVALID_DATE);
     }
-    PlaceAnswer::Place(place)
+    PlaceAnswer::Place(to as u32)
 }
 
 // The day of a month by the month's number, cut to the month's last.
@@ -125,13 +119,13 @@ pub fn add_years(t: Date, n: i32) -> DateAnswer
     }
 }
 
-// Inner: days added to a date that is already judged.
+// Inner: days added to a date that is already judged. Counted from 0, so that one test finds both ends of the calendar.
 pub fn days_later(t: Date, n: i64) -> DateAnswer
-    requires { ⌜ isDate t ≡ true ⌝ }
+    requires { ⌜ (isDate t ≡ true) × (mag n < 17179869184) ⌝ }
     ensures { λ r. ⌜ dateOutcome r ≡ daysLater t n ⌝ }
 {
-    match land(calendar::number_of(t), n, LAST_DAY) {
-        PlaceAnswer::Place(i) => calendar::date_of(Day(i)),
+    match land(calendar::number_of(t) - 1, n, LAST_DAY_INDEX) {
+        PlaceAnswer::Place(i) => DateAnswer::Date(calendar::date_on(i + 1)),
         PlaceAnswer::Refused(k) => DateAnswer::Refused(k),
     }
 }
@@ -140,9 +134,15 @@ pub fn days_later(t: Date, n: i64) -> DateAnswer
 pub fn add_days(t: Date, n: i64) -> DateAnswer
     ensures { λ r. ⌜ AddDaysPromise t n r ⌝ }
 {
-    if calendar::is_date(t) {
-        days_later(t, n)
-    } else {
-        DateAnswer::Refused(paper::INVALID_DATE)
+    if !calendar::is_date(t) {
+        return DateAnswer::Refused(paper::INVALID_DATE);
     }
+    // A move of more than the whole calendar leads out of it.
+    if n < -3652059 {
+        return DateAnswer::Refused(paper::INVALID_DATE);
+    }
+    if 3652059 < n {
+        return DateAnswer::Refused(paper::INVALID_DATE);
+    }
+    days_later(t, n)
 }

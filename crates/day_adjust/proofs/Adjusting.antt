@@ -1,6 +1,6 @@
 -- The laws of adjustment: none leaves every date, and what the other rules give is a business day on its side.
 -- Assumes nothing.
-use Prim.Native.Nat.{ℕ, _<_}
+use Prim.Native.Nat.{ℕ, _≤_, _<_}
 use mathlib.Core.Path.{_≡_, refl, sym, _∙_, ap, subst}
 use mathlib.Core.Bool.{Bool, true, false}
 use mathlib.Core.List.{List}
@@ -11,7 +11,7 @@ use Rattle.calendar.specs.Dates.{isDate, isDay, dayNumber, theDate}
 use Rattle.calendar.specs.Answers.{dateOf}
 use Rattle.calendar.specs.declared.Date.{Date}
 use Rattle.calendar.specs.declared.Day.{Day}
-use Rattle.calendar.proofs.Dates.{IsDate, date-yes, day-yes, number-from, number-to, the-date-is, number-found}
+use Rattle.calendar.proofs.Dates.{IsDate, date-yes, day-yes, day-is, number-from, number-to, the-date-is, number-found}
 use Rattle.holidays.specs.Table.{ascending}
 use Rattle.holidays.specs.Search.{Judged}
 use Rattle.holidays.specs.Business.{isBusiness, nextFrom, prevFrom}
@@ -34,20 +34,30 @@ judged t table d a =
     let h = date-yes t d in
     record { from = number-from t h; to = number-to t h; sorted = a }
 
-pub open-stays : (r : DayAdjust) (t : Date) (table : List ℕ) → isBusiness table (dayNumber t) ≡ true → adjusted r t table ≡ given t
-unfolding adjusted
-open-stays r t table b = rw b
+-- and of its serial day by another name; a business day stays, and any other moves
+module _ (t : Date) (n : ℕ) (table : List ℕ) (own : n ≡ dayNumber t) where
+  pub judged-at : isDate t ≡ true → ascending table ≡ true → Judged n table
+  judged-at d a = subst (λ (x : ℕ). Judged x table) (sym own) (judged t table d a)
 
-pub shut-moves : (r : DayAdjust) (t : Date) (table : List ℕ) → isBusiness table (dayNumber t) ≡ false → movedDate r t (dayNumber t) table ≡ adjusted r t table
-unfolding adjusted
-shut-moves r t table b = rw b
+  pub open-stays : (r : DayAdjust) → isBusiness table n ≡ true → given t ≡ adjusted r t table
+  unfolding adjusted
+  open-stays r b = rw (ap (isBusiness table) (sym own) ∙ b)
+
+  pub shut-moves : (r : DayAdjust) → isBusiness table n ≡ false → movedDate r t n table ≡ adjusted r t table
+  unfolding adjusted
+  shut-moves r b = rw (ap (isBusiness table) (sym own) ∙ b) (ap (λ (x : ℕ). movedDate r t x table) own)
+
+-- the date of a day of the calendar
+pub date-on-day : (d : Day) → 1 ≤ d .0 → d .0 ≤ 3652059 → given (theDate (d .0)) ≡ dateOf d
+unfolding dateOf
+date-on-day d h k = rw (day-is d h k)
 
 -- what a search gives is the date of the business day it found
 pub record Moved (table : List ℕ) (u : Date) : Type 0 where
   pub dated : IsDate u
   pub business : isBusiness table (dayNumber u) ≡ true
 
--- the date of a day of the calendar
+-- and back
 on-day : (d : Day) (u : Date) → dateOf d ≡ given u → IsDate u × (dayNumber u ≡ d .0)
 unfolding dateOf
 on-day d u e =

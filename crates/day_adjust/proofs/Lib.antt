@@ -1,3 +1,4 @@
+pub mod Near
 pub mod Adjusting
 pub mod OneOutcome
 pub mod Examples

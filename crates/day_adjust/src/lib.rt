@@ -1,11 +1,15 @@
 // Day adjustment: a date that is no business day moves by one of four rules.
 ghost use mathlib.Core.Path.{_≡_};
-ghost use mathlib.Core.Bool.{true};
-ghost use Rattle.calendar.specs.Dates.{isDate, dayNumber};
+ghost use mathlib.Core.Bool.{true, _||_};
+ghost use Prim.Native.Nat.{_≤_};
+ghost use lib.Dec.{eqb, leb};
+ghost use Rattle.paper.specs.Outcome.{given, andThen, pick};
+ghost use Rattle.gregorian.specs.Gregorian.{monthLength};
+ghost use Rattle.calendar.specs.Dates.{isDate, dayNumber, theDate};
 ghost use Rattle.calendar.specs.Answers.{dateOutcome};
 ghost use Rattle.holidays.specs.Table.{ascending};
-ghost use Rattle.holidays.specs.Search.{Judged, Splits};
-ghost use Rattle.day_adjust.specs.Adjustment.{nextDate, prevDate, modifiedDate, movedDate, adjusted, AdjustPromise};
+ghost use Rattle.holidays.specs.Search.{Splits};
+ghost use Rattle.day_adjust.specs.Adjustment.{nextDate, prevDate, movedDate, adjusted, AdjustPromise};
 use calendar::Date;
 use calendar::DateAnswer;
 use calendar::DayAnswer;
@@ -17,37 +21,78 @@ pub enum DayAdjust {
     Modified,
 }
 
-fn next_date(n: u32, table: &[u32], i: usize) -> DateAnswer
-    requires { ⌜ (Judged n (now table)) × (Splits (now table) n i) ⌝ }
+// Whether a month has a day of that number, and perhaps more. Every month has 28.
+fn reaches(year: u32, month: u32, day: u32) -> bool
+    requires { ⌜ (1 ≤ month) × (month ≤ 12) ⌝ }
+    ensures { λ r. ⌜ r ≡ leb day (monthLength year month) ⌝ }
+{
+    if day <= 28 {
+        return true;
+    }
+    day <= gregorian::length_of_month(year, month)
+}
+
+// The date of a day near one whose date is known: within its month only the day's number differs, which takes no division.
+fn date_near(t: Date, n: u32, at: u32) -> Date
+    requires { ⌜ (isDate t ≡ true) × (n ≡ dayNumber t) × (1 ≤ at) × (at ≤ 3652059) ⌝ }
+    ensures { λ r. ⌜ r ≡ theDate at ⌝ }
+{
+    if at < n {
+        let back = n - at;
+        if back < t.day {
+            return Date {
+                year: t.year,
+                month: t.month,
+                day: t.day - back,
+            };
+        }
+        return calendar::date_on(at);
+    }
+    let day = t.day + (at - n);
+    if reaches(t.year, t.month, day) {
+        return Date {
+            year: t.year,
+            month: t.month,
+            day,
+        };
+    }
+    calendar::date_on(at)
+}
+
+fn next_date(t: Date, n: u32, table: &[u32], i: usize) -> DateAnswer
+    requires { ⌜ (isDate t ≡ true) × (n ≡ dayNumber t) × (ascending (now table) ≡ true) × (Splits (now table) n i) ⌝ }
     ensures { λ r. ⌜ dateOutcome r ≡ nextDate (now (table .entry)) n ⌝ }
 {
     match holidays::next_at(n, table, i) {
-        DayAnswer::Day(d) => calendar::date_of(d),
+        DayAnswer::Day(d) => DateAnswer::Date(date_near(t, n, d.0)),
         DayAnswer::Refused(k) => DateAnswer::Refused(k),
     }
 }
 
-fn prev_date(n: u32, table: &[u32], i: usize) -> DateAnswer
-    requires { ⌜ (Judged n (now table)) × (Splits (now table) n i) ⌝ }
+fn prev_date(t: Date, n: u32, table: &[u32], i: usize) -> DateAnswer
+    requires { ⌜ (isDate t ≡ true) × (n ≡ dayNumber t) × (ascending (now table) ≡ true) × (Splits (now table) n i) ⌝ }
     ensures { λ r. ⌜ dateOutcome r ≡ prevDate (now (table .entry)) n ⌝ }
 {
     match holidays::prev_at(n, table, i) {
-        DayAnswer::Day(d) => calendar::date_of(d),
+        DayAnswer::Day(d) => DateAnswer::Date(date_near(t, n, d.0)),
         DayAnswer::Refused(k) => DateAnswer::Refused(k),
     }
 }
 
-// Looks ahead first, and only compares the month's number, as finql does.
-fn modified_date(n: u32, month: u32, table: &[u32], i: usize) -> DateAnswer
-    requires { ⌜ (Judged n (now table)) × (Splits (now table) n i) ⌝ }
-    ensures { λ r. ⌜ dateOutcome r ≡ modifiedDate (now (table .entry)) n month ⌝ }
+// Following and modified look ahead first. Modified turns back where the month differs, and only compares its number, as finql does.
+fn ahead_date(across: bool, t: Date, n: u32, table: &[u32], i: usize) -> DateAnswer
+    requires { ⌜ (isDate t ≡ true) × (n ≡ dayNumber t) × (ascending (now table) ≡ true) × (Splits (now table) n i) ⌝ }
+    ensures { λ r. ⌜ dateOutcome r ≡ andThen (nextDate (now (table .entry)) n) (λ u. pick (across || eqb (u .month) (t .month)) (given u) (prevDate (now (table .entry)) n)) ⌝ }
 {
-    match next_date(n, table, i) {
+    match next_date(t, n, table, i) {
         DateAnswer::Date(u) => {
-            if u.month == month {
+            if across {
                 return DateAnswer::Date(u);
             }
-            prev_date(n, table, i)
+            if u.month == t.month {
+                return DateAnswer::Date(u);
+            }
+            prev_date(t, n, table, i)
         }
         DateAnswer::Refused(k) => DateAnswer::Refused(k),
     }
@@ -55,14 +100,14 @@ fn modified_date(n: u32, month: u32, table: &[u32], i: usize) -> DateAnswer
 
 // Where a day that is no business day moves.
 fn moved_date(rule: DayAdjust, t: Date, n: u32, table: &[u32], i: usize) -> DateAnswer
-    requires { ⌜ (Judged n (now table)) × (Splits (now table) n i) ⌝ }
+    requires { ⌜ (isDate t ≡ true) × (n ≡ dayNumber t) × (ascending (now table) ≡ true) × (Splits (now table) n i) ⌝ }
     ensures { λ r. ⌜ dateOutcome r ≡ movedDate rule t n (now (table .entry)) ⌝ }
 {
     match rule {
         DayAdjust::None => DateAnswer::Date(t),
-        DayAdjust::Following => next_date(n, table, i),
-        DayAdjust::Preceding => prev_date(n, table, i),
-        DayAdjust::Modified => modified_date(n, t.month, table, i),
+        DayAdjust::Following => ahead_date(true, t, n, table, i),
+        DayAdjust::Preceding => prev_date(t, n, table, i),
+        DayAdjust::Modified => ahead_date(false, t, n, table, i),
     }
 }
 
@@ -71,24 +116,26 @@ pub fn adjust_at(rule: DayAdjust, t: Date, n: u32, table: &[u32], i: usize) -> D
     requires { ⌜ (isDate t ≡ true) × (n ≡ dayNumber t) × (ascending (now table) ≡ true) × (Splits (now table) n i) ⌝ }
     ensures { λ r. ⌜ dateOutcome r ≡ adjusted rule t (now (table .entry)) ⌝ }
 {
-    if let DayAdjust::None = rule {
-        return DateAnswer::Date(t);
-    }
     if holidays::business_at(n, table, i) {
         return DateAnswer::Date(t);
     }
     moved_date(rule, t, n, table, i)
 }
 
+// The last steps are those of `adjust_at` in words of its own: most dates stay, and then no call is made.
 pub fn adjust_date(rule: DayAdjust, t: Date, table: &[u32]) -> DateAnswer
     ensures { λ r. ⌜ AdjustPromise rule t (now (table .entry)) r ⌝ }
 {
     if !calendar::is_date(t) {
         return DateAnswer::Refused(paper::INVALID_DATE);
     }
-    if !holidays::is_table(table) {
+    let n = calendar::number_of(t);
+    let i = holidays::place_in(table, n);
+    if holidays::NOWHERE <= i {
         return DateAnswer::Refused(paper::BAD_HOLIDAY_TABLE);
     }
-    let n = calendar::number_of(t);
-    adjust_at(rule, t, n, table, holidays::first_from(table, n))
+    if holidays::business_at(n, table, i) {
+        return DateAnswer::Date(t);
+    }
+    moved_date(rule, t, n, table, i)
 }

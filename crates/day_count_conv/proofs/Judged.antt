@@ -6,13 +6,17 @@ use native.Mathlib.Omega.{arith}
 use Rattle.calendar.specs.Dates.{isDate, isBefore}
 use Rattle.calendar.specs.declared.Date.{Date}
 use Rattle.calendar.proofs.Dates.{date-yes}
-use Rattle.calendar.proofs.Order.{before-days}
+use Rattle.calendar.proofs.Order.{before-days, not-before}
 use Rattle.day_fraction.specs.Fractions.{Span}
 use Rattle.day_count_conv.specs.Conventions.{Values, byRule, rollDated, yearFraction}
 use Rattle.day_count_conv.specs.declared.DayCountConv.{DayCountConv}
 use Rattle.day_count_conv.specs.declared.DayCountConv.the-variants as conv
 use Rattle.day_count_conv.specs.declared.RollDate.the-variants as roll-date
 use Rattle.day_count_conv.specs.declared.Extras.{Extras}
+
+-- two dates of which the second is not before the first
+pub spans : (start end : Date) → isDate start ≡ true → isDate end ≡ true → isBefore end start ≡ false → Span start end
+spans start end d e b = record { first = d; last = e; order = not-before end start (date-yes end e) (date-yes start d) b }
 
 pub span-fraction : {A : Type 0} (v : Values A) (rule : DayCountConv) (start end : Date) (x : Extras) → Span start end → rollDated rule (x .roll) ≡ true → yearFraction v rule start end x ≡ byRule v rule start end x
 unfolding yearFraction

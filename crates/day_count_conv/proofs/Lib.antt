@@ -1,5 +1,6 @@
 pub mod Numbers
 pub mod Judged
+pub mod Whole
 pub mod Agreement
 pub mod Walks
 pub mod Bounds

@@ -122,6 +122,14 @@ byRule v conv.D30_360 start end x = simpleFraction v simple.D30_360 start end
 byRule v conv.D30E360 start end x = simpleFraction v simple.D30E360 start end
 byRule v conv.ActActICMA start end x = icmaFraction v (x .roll) (x .period) start end
 
+-- neither a roll date nor a period
+abbrev pub none : Extras
+none = record { roll = roll-date.Absent; period = roll-period.Absent }
+
+-- a period that rolls from a date
+abbrev pub rolledFrom : Date → TimePeriod → Extras
+rolledFrom t p = record { roll = roll-date.Date t; period = roll-period.Period p }
+
 -- under ICMA a roll date that is given exists
 abbrev pub rollDateExists : RollDate → Bool
 rollDateExists (roll-date.Date t) = isDate t

@@ -1,1 +1,2 @@
 pub mod Conventions
+pub mod Whole

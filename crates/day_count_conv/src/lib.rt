@@ -1,13 +1,15 @@
 // Day count conventions: the year fraction between two dates, by six rules.
 ghost use mathlib.Core.Path.{_≡_};
-ghost use mathlib.Core.Bool.{true};
+ghost use mathlib.Core.Bool.{true, not};
+ghost use Rattle.paper.specs.Outcome.{given, unless};
 ghost use Prim.Native.Nat.{_≤_};
-ghost use lib.IntN.{pos};
 ghost use Rattle.calendar.specs.Dates.{isDate, dayNumber};
-ghost use Rattle.day_fraction.specs.Fractions.{Span, days as daysOf};
-ghost use Rattle.day_count_conv.specs.Conventions.{fractionOutcome, inBits, simpleFraction, partAdded, partsBits, walkedFraction, frequentFraction, icmaFraction, rollDateExists, byRule, rollDated, codeOf, ConventionPromise, FractionPromise};
+ghost use Rattle.day_fraction.specs.Fractions.{Span, impossible};
+ghost use Rattle.day_fraction.specs.declared.SimpleRule.the-variants as simple;
+ghost use Rattle.icma.specs.Walk.{step};
+ghost use Rattle.day_count_conv.specs.Whole.{wholePeriod};
+ghost use Rattle.day_count_conv.specs.Conventions.{fractionOutcome, inBits, none, rolledFrom, partAdded, partsBits, walkedFraction, frequentFraction, icmaFraction, rollDateExists, byRule, rollDated, FractionPromise};
 use calendar::Date;
-use day_fraction::SimpleRule;
 use icma::Broken;
 use icma::Parts;
 use icma::PartsAnswer;
@@ -50,43 +52,16 @@ pub enum ConventionAnswer {
     Refused(u32),
 }
 
-// The convention of a packed code; 18: there is none.
-pub fn convention_of(code: u32) -> ConventionAnswer
-    ensures { λ r. ⌜ ConventionPromise code r ⌝ }
-{
-    match code {
-        0 => ConventionAnswer::Convention(DayCountConv::Act365),
-        1 => ConventionAnswer::Convention(DayCountConv::Act360),
-        2 => ConventionAnswer::Convention(DayCountConv::Act365l),
-        3 => ConventionAnswer::Convention(DayCountConv::D30_360),
-        4 => ConventionAnswer::Convention(DayCountConv::D30E360),
-        5 => ConventionAnswer::Convention(DayCountConv::ActActICMA),
-        _ => ConventionAnswer::Refused(paper::MALFORMED_RECORD),
-    }
-}
-
-// Its packed code.
-pub fn code_of(rule: DayCountConv) -> u32
-    ensures { λ r. ⌜ r ≡ codeOf rule ⌝ }
-{
-    match rule {
-        DayCountConv::Act365 => 0,
-        DayCountConv::Act360 => 1,
-        DayCountConv::Act365l => 2,
-        DayCountConv::D30_360 => 3,
-        DayCountConv::D30E360 => 4,
-        DayCountConv::ActActICMA => 5,
-    }
-}
-
-fn simple(rule: SimpleRule, start: Date, end: Date) -> YearFraction
+// A fraction by 30/360 or 30E/360, unless it is 0 on two different dates.
+fn possible(start: Date, end: Date, fraction: f64) -> YearFraction
     requires { ⌜ Span start end ⌝ }
-    ensures { λ r. ⌜ fractionOutcome r ≡ simpleFraction inBits rule start end ⌝ }
+    ensures { λ r. ⌜ fractionOutcome r ≡ unless (not (impossible simple.D30_360 start end)) 9 (given fraction) ⌝ }
+    ensures { λ r. ⌜ fractionOutcome r ≡ unless (not (impossible simple.D30E360 start end)) 9 (given fraction) ⌝ }
 {
-    if day_fraction::has_impossible(rule, start, end) {
+    if day_fraction::is_overnight(start, end) {
         return YearFraction::Refused(paper::IMPOSSIBLE_360);
     }
-    YearFraction::Fraction(day_fraction::simple_fraction(rule, start, end))
+    YearFraction::Fraction(fraction)
 }
 
 // A broken part added to the fraction so far.
@@ -156,13 +131,45 @@ pub fn fraction_judged(rule: DayCountConv, start: Date, end: Date, x: Extras) ->
     ensures { λ r. ⌜ fractionOutcome r ≡ byRule inBits rule start end x ⌝ }
 {
     match rule {
-        DayCountConv::Act365 => simple(SimpleRule::Act365, start, end),
-        DayCountConv::Act360 => simple(SimpleRule::Act360, start, end),
-        DayCountConv::Act365l => simple(SimpleRule::Act365l, start, end),
-        DayCountConv::D30_360 => simple(SimpleRule::D30_360, start, end),
-        DayCountConv::D30E360 => simple(SimpleRule::D30E360, start, end),
+        DayCountConv::Act365 => YearFraction::Fraction(day_fraction::calc_act_365(start, end)),
+        DayCountConv::Act360 => YearFraction::Fraction(day_fraction::calc_act_360(start, end)),
+        DayCountConv::Act365l => YearFraction::Fraction(day_fraction::calc_act_365_leap(
+            start,
+            end,
+        )),
+        DayCountConv::D30_360 => possible(start, end, day_fraction::calc_30_360(start, end)),
+        DayCountConv::D30E360 => possible(start, end, day_fraction::calc_30_e_360(start, end)),
         DayCountConv::ActActICMA => act_act_icma(x, start, end),
     }
+}
+
+// One whole period takes no walk.
+fn whole_period(p: TimePeriod) -> YearFraction
+    ensures { λ r. ⌜ fractionOutcome r ≡ wholePeriod p ⌝ }
+{
+    match time_period::frequency(p) {
+        FrequencyAnswer::Frequency(f) => {
+            if p.num < 1 {
+                return YearFraction::Refused(paper::PERIOD_BELOW_ONE);
+            }
+            let whole = Parts::Long(Broken::Nothing, Broken::Nothing, 1);
+            YearFraction::Fraction(parts_bits(f, whole))
+        }
+        FrequencyAnswer::Refused(k) => YearFraction::Refused(k),
+    }
+}
+
+// Inner: of a period from a date to the one that it leads to, rolled from its start, so that a rollout steps once.
+pub fn fraction_of_period(rule: DayCountConv, p: TimePeriod, from: Date, to: Date) -> YearFraction
+    requires { ⌜ (Span from to) × (step p from ≡ given to) ⌝ }
+    ensures { λ r. ⌜ fractionOutcome r ≡ byRule inBits rule from to (rolledFrom from p) ⌝ }
+{
+    if let DayCountConv::ActActICMA = rule {
+        return whole_period(p);
+    }
+    let roll = RollDate::Date(from);
+    let period = RollPeriod::Period(p);
+    fraction_judged(rule, from, to, Extras { roll, period })
 }
 
 // Whether a roll date that is given exists; only ICMA looks at it.
@@ -183,21 +190,6 @@ fn roll_dated(rule: DayCountConv, x: Extras) -> bool
     }
 }
 
-// The same with the days between them: the two rules that take no more are answered here.
-fn by_rule(rule: DayCountConv, start: Date, end: Date, days: u32, x: Extras) -> YearFraction
-    requires { ⌜ (Span start end) × (rollDated rule (x .roll) ≡ true) × (pos days ≡ daysOf start end) ⌝ }
-    ensures { λ r. ⌜ fractionOutcome r ≡ byRule inBits rule start end x ⌝ }
-{
-    match rule {
-        DayCountConv::Act365 => YearFraction::Fraction(days as f64 / 365.0),
-        DayCountConv::Act360 => YearFraction::Fraction(days as f64 / 360.0),
-        DayCountConv::Act365l => simple(SimpleRule::Act365l, start, end),
-        DayCountConv::D30_360 => simple(SimpleRule::D30_360, start, end),
-        DayCountConv::D30E360 => simple(SimpleRule::D30E360, start, end),
-        DayCountConv::ActActICMA => act_act_icma(x, start, end),
-    }
-}
-
 // The year fraction from start to end.
 pub fn year_fraction(rule: DayCountConv, start: Date, end: Date, x: Extras) -> YearFraction
     ensures { λ r. ⌜ FractionPromise rule start end x r ⌝ }
@@ -211,10 +203,31 @@ pub fn year_fraction(rule: DayCountConv, start: Date, end: Date, x: Extras) -> Y
     if !roll_dated(rule, x) {
         return YearFraction::Refused(paper::INVALID_DATE);
     }
-    let from = calendar::number_of(start);
-    let to = calendar::number_of(end);
-    if to < from {
+    if calendar::is_before(end, start) {
         return YearFraction::Refused(paper::START_AFTER_END);
     }
-    by_rule(rule, start, end, to - from, x)
+    fraction_judged(rule, start, end, x)
+}
+
+// Inner: the same with no roll date and no period, for `exports`. Its one caller takes it in whole, which is why the rules stand here once more.
+pub fn fraction_between(rule: DayCountConv, from: Date, to: Date) -> YearFraction
+    ensures { λ r. ⌜ FractionPromise rule from to none r ⌝ }
+{
+    if !calendar::is_date(from) {
+        return YearFraction::Refused(paper::INVALID_DATE);
+    }
+    if !calendar::is_date(to) {
+        return YearFraction::Refused(paper::INVALID_DATE);
+    }
+    if calendar::is_before(to, from) {
+        return YearFraction::Refused(paper::START_AFTER_END);
+    }
+    match rule {
+        DayCountConv::Act365 => YearFraction::Fraction(day_fraction::calc_act_365(from, to)),
+        DayCountConv::Act360 => YearFraction::Fraction(day_fraction::calc_act_360(from, to)),
+        DayCountConv::Act365l => YearFraction::Fraction(day_fraction::calc_act_365_leap(from, to)),
+        DayCountConv::D30_360 => possible(from, to, day_fraction::calc_30_360(from, to)),
+        DayCountConv::D30E360 => possible(from, to, day_fraction::calc_30_e_360(from, to)),
+        DayCountConv::ActActICMA => YearFraction::Refused(paper::ICMA_MISSING_ROLL_DATE),
+    }
 }

@@ -1,10 +1,9 @@
 -- The `f64` operations as the code writes them, with each literal by its pattern, are those of the definitions.
 -- Assumes nothing.
 use mathlib.Core.Path.{_≡_, refl, ap₂}
-use Prim.Native.Nat.{ℕ}
 use lib.IntN.{ℤ, pos}
-use lib.Ieee.{Float, binary64, add, sub, div, ofInt, ofBits}
-use Rattle.day_fraction.specs.Fractions.{whole, over, thirtiesBits, leapBits}
+use lib.Ieee.{Float, binary64, add, div, ofInt, ofBits}
+use Rattle.day_fraction.specs.Fractions.{whole, over, thirtiesBits}
 
 lit12 : ofBits binary64 0x4028_0000_0000_0000 ≡ whole (pos 12)
 unfolding ofBits ofInt
@@ -18,6 +17,13 @@ lit365 : ofBits binary64 0x4076_d000_0000_0000 ≡ whole (pos 365)
 unfolding ofBits ofInt
 lit365 = refl
 
+lit366 : ofBits binary64 0x4076_e000_0000_0000 ≡ whole (pos 366)
+unfolding ofBits ofInt
+lit366 = refl
+
+pub over-366 : {y z : ℤ} → y ≡ z → div binary64 (whole y) (ofBits binary64 0x4076_e000_0000_0000) ≡ over z 366
+over-366 e = ap₂ (λ (z : ℤ) (x : Float). div binary64 (whole z) x) e lit366
+
 pub over-365 : {y z : ℤ} → y ≡ z → div binary64 (whole y) (ofBits binary64 0x4076_d000_0000_0000) ≡ over z 365
 over-365 e = ap₂ (λ (z : ℤ) (x : Float). div binary64 (whole z) x) e lit365
 
@@ -27,7 +33,3 @@ over-360 e = ap₂ (λ (z : ℤ) (x : Float). div binary64 (whole z) x) e lit360
 pub thirties-written : (y m d : ℤ) {Y M D : Float} → Y ≡ whole y → M ≡ whole m → D ≡ whole d
     → add binary64 (add binary64 Y (div binary64 M (ofBits binary64 0x4028_0000_0000_0000))) (div binary64 D (ofBits binary64 0x4076_8000_0000_0000)) ≡ thirtiesBits y m d
 thirties-written y m d p q r = rw (p, q, r, lit12, lit360)
-
-pub leap-written : (y : ℤ) {Y : Float} {a e b E c s d S : ℕ} → Y ≡ whole y → a ≡ e → b ≡ E → c ≡ s → d ≡ S
-    → sub binary64 (add binary64 Y (div binary64 (whole (pos a)) (whole (pos b)))) (div binary64 (whole (pos c)) (whole (pos d))) ≡ leapBits y e E s S
-leap-written y p q r t u = rw (p, q, r, t, u)

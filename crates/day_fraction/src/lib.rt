@@ -3,9 +3,10 @@ ghost use mathlib.Core.Path.{_≡_};
 ghost use mathlib.Core.Bool.{true};
 ghost use Prim.Native.Nat.{_≤_};
 ghost use lib.IntN.{pos};
+ghost use Rattle.gregorian.specs.Gregorian.{yearLength};
 ghost use Rattle.calendar.specs.Dates.{isDate};
 ghost use Rattle.day_fraction.specs.Exact.{difference};
-ghost use Rattle.day_fraction.specs.Fractions.{Span, days, years, months, sinceJanuary, cut, endDay, whole, thirtiesBits, bits, impossible};
+ghost use Rattle.day_fraction.specs.Fractions.{Span, days, years, months, sinceJanuary, cut, endDay, whole, over, thirtiesBits, bits, impossible};
 use calendar::Date;
 
 // In the order of document 01's table.
@@ -25,26 +26,33 @@ fn days_from(start: Date, end: Date) -> u32
     calendar::number_of(end) - calendar::number_of(start)
 }
 
-fn calc_act_365(start: Date, end: Date) -> f64
+// Inner: of two dates that are already judged.
+pub fn calc_act_365(start: Date, end: Date) -> f64
     requires { ⌜ Span start end ⌝ }
     ensures { λ r. ⌜ r ≡ bits SimpleRule.Act365 start end ⌝ }
 {
     days_from(start, end) as f64 / 365.0
 }
 
-fn calc_act_360(start: Date, end: Date) -> f64
+// Inner: of the same.
+pub fn calc_act_360(start: Date, end: Date) -> f64
     requires { ⌜ Span start end ⌝ }
     ensures { λ r. ⌜ r ≡ bits SimpleRule.Act360 start end ⌝ }
 {
     days_from(start, end) as f64 / 360.0
 }
 
-// The days since 1 January: no serial day is taken.
-fn days_to_date(t: Date) -> u32
+// How much of its year is gone at a date: the days since 1 January, of which no serial day is taken, over the year's length.
+fn gone(t: Date) -> f64
     requires { ⌜ isDate t ≡ true ⌝ }
-    ensures { λ r. ⌜ r ≡ sinceJanuary t ⌝ }
+    ensures { λ r. ⌜ r ≡ over (pos (sinceJanuary t)) (yearLength (t .year)) ⌝ }
 {
-    gregorian::days_before_month(t.year, t.month) + t.day - 1
+    let since = gregorian::days_before_month(t.year, t.month) + t.day - 1;
+    if gregorian::is_leap(t.year) {
+        since as f64 / 366.0
+    } else {
+        since as f64 / 365.0
+    }
 }
 
 // A difference with its sign: months go down where a period crosses the new year.
@@ -55,13 +63,14 @@ fn signed_difference(to: u32, from: u32) -> f64
     (to as i32 - from as i32) as f64
 }
 
-fn calc_act_365_leap(start: Date, end: Date) -> f64
+// Inner: of the same.
+pub fn calc_act_365_leap(start: Date, end: Date) -> f64
     requires { ⌜ Span start end ⌝ }
     ensures { λ r. ⌜ r ≡ bits SimpleRule.Act365l start end ⌝ }
 {
     let y = signed_difference(end.year, start.year);
-    let last = days_to_date(end) as f64 / gregorian::length_of_year(end.year) as f64;
-    let first = days_to_date(start) as f64 / gregorian::length_of_year(start.year) as f64;
+    let last = gone(end);
+    let first = gone(start);
     y + last - first
 }
 
@@ -95,36 +104,24 @@ fn in_thirties(start: Date, end: Date, from: u32, to: u32) -> f64
     y + m / 12.0 + d / 360.0
 }
 
-fn calc_30_360(start: Date, end: Date) -> f64
+// Inner: of the same.
+pub fn calc_30_360(start: Date, end: Date) -> f64
     requires { ⌜ Span start end ⌝ }
     ensures { λ r. ⌜ r ≡ bits SimpleRule.D30_360 start end ⌝ }
 {
     in_thirties(start, end, cut_day(start.day), end_day(start.day, end.day))
 }
 
-fn calc_30_e_360(start: Date, end: Date) -> f64
+// Inner: of the same.
+pub fn calc_30_e_360(start: Date, end: Date) -> f64
     requires { ⌜ Span start end ⌝ }
     ensures { λ r. ⌜ r ≡ bits SimpleRule.D30E360 start end ⌝ }
 {
     in_thirties(start, end, cut_day(start.day), cut_day(end.day))
 }
 
-// Inner: the year fraction of two dates that are already judged.
-pub fn simple_fraction(rule: SimpleRule, start: Date, end: Date) -> f64
-    requires { ⌜ Span start end ⌝ }
-    ensures { λ r. ⌜ r ≡ bits rule start end ⌝ }
-{
-    match rule {
-        SimpleRule::Act365 => calc_act_365(start, end),
-        SimpleRule::Act360 => calc_act_360(start, end),
-        SimpleRule::Act365l => calc_act_365_leap(start, end),
-        SimpleRule::D30_360 => calc_30_360(start, end),
-        SimpleRule::D30E360 => calc_30_e_360(start, end),
-    }
-}
-
-// Both rules are 0 on two different dates in one case: from the 30th to the 31st of one month.
-fn is_overnight(start: Date, end: Date) -> bool
+// Inner: whether refusal 9 meets the same. Both rules are 0 on two different dates in one case: from the 30th to the 31st of one month.
+pub fn is_overnight(start: Date, end: Date) -> bool
     requires { ⌜ Span start end ⌝ }
     ensures { λ r. ⌜ (r ≡ impossible SimpleRule.D30_360 start end) × (r ≡ impossible SimpleRule.D30E360 start end) ⌝ }
 {
@@ -138,18 +135,4 @@ fn is_overnight(start: Date, end: Date) -> bool
         return false;
     }
     start.year == end.year
-}
-
-// Inner: whether refusal 9 meets two dates that are already judged. Whole numbers decide it, before any f64 is taken.
-pub fn has_impossible(rule: SimpleRule, start: Date, end: Date) -> bool
-    requires { ⌜ Span start end ⌝ }
-    ensures { λ r. ⌜ r ≡ impossible rule start end ⌝ }
-{
-    match rule {
-        SimpleRule::Act365 => false,
-        SimpleRule::Act360 => false,
-        SimpleRule::Act365l => false,
-        SimpleRule::D30_360 => is_overnight(start, end),
-        SimpleRule::D30E360 => is_overnight(start, end),
-    }
 }

@@ -15,11 +15,9 @@ use Rattle.time_period.specs.declared.TimePeriodUnit.the-variants as unit
 use Rattle.day_adjust.specs.Adjustment.{adjustDate}
 use Rattle.day_adjust.specs.declared.DayAdjust.the-variants as rule
 use Rattle.day_fraction.specs.Exact.{Exact}
-use Rattle.day_count_conv.specs.Conventions.{yearFraction, inBits, exactly, Agree, Within}
+use Rattle.day_count_conv.specs.Conventions.{none, rolledFrom, yearFraction, inBits, exactly, Agree, Within}
 use Rattle.day_count_conv.specs.declared.DayCountConv.{DayCountConv}
 use Rattle.day_count_conv.specs.declared.DayCountConv.the-variants as conv
-use Rattle.day_count_conv.specs.declared.RollDate.the-variants as roll-date
-use Rattle.day_count_conv.specs.declared.RollPeriod.the-variants as roll-period
 use Rattle.day_count_conv.specs.declared.Extras.{Extras}
 use Rattle.bond.specs.declared.Note.{Note}
 use Rattle.accrued_interest.specs.Accrued.{accrued, CloseAmount}
@@ -37,13 +35,6 @@ years n = record { num = n; unit = unit.Annual }
 
 abbrev pub over : ℕ → ℕ → Exact
 over n d = record { num = pos n; den = d }
-
--- a roll date and a period, which ICMA alone asks for
-abbrev pub unrolled : Extras
-unrolled = record { roll = roll-date.Absent; period = roll-period.Absent }
-
-abbrev pub rolling : TimePeriod → Date → Extras
-rolling p roll = record { roll = roll-date.Date roll; period = roll-period.Period p }
 
 -- a 4 percent note of 1000 EUR, issued 2021-01-15, coupon 15.07, 6M, 30E/360, modified, maturing 2022-01-15. 4 is 1 * 2^2; the paper gives no number, and 00417 is one
 abbrev pub theNote : Note
@@ -86,16 +77,16 @@ pub record DeskCard : Type 0 where
   -- 9999-12-01 +1M is refused 1
   pub f : addTo (months (pos 1)) absent (on 9999 12 1) ≡ refused 1
   -- 30/360, 2021-01-30 to 31: refused 9
-  pub g : Fraction conv.D30_360 (on 2021 1 30) (on 2021 1 31) unrolled (refused 9)
+  pub g : Fraction conv.D30_360 (on 2021 1 30) (on 2021 1 31) none (refused 9)
   -- 30/360, 2020-11-30 to 2021-02-28: 88/360
-  pub h : Fraction conv.D30_360 (on 2020 11 30) (on 2021 2 28) unrolled (given (over 88 360))
+  pub h : Fraction conv.D30_360 (on 2020 11 30) (on 2021 2 28) none (given (over 88 360))
   -- 2021-01-15 to 2021-03-31: 30/360 76/360, 30E/360 75/360
-  pub i-30-360 : Fraction conv.D30_360 (on 2021 1 15) (on 2021 3 31) unrolled (given (over 76 360))
-  pub i-30E-360 : Fraction conv.D30E360 (on 2021 1 15) (on 2021 3 31) unrolled (given (over 75 360))
+  pub i-30-360 : Fraction conv.D30_360 (on 2021 1 15) (on 2021 3 31) none (given (over 76 360))
+  pub i-30E-360 : Fraction conv.D30E360 (on 2021 1 15) (on 2021 3 31) none (given (over 75 360))
   -- act/365 leap, 2019-07-01 to 2020-07-01: 1 + 182/366 - 181/365, over 366 * 365
-  pub j : Fraction conv.Act365l (on 2019 7 1) (on 2020 7 1) unrolled (given (over (1 * (366 * 365) + 182 * 365 - 181 * 366) (366 * 365)))
+  pub j : Fraction conv.Act365l (on 2019 7 1) (on 2020 7 1) none (given (over (1 * (366 * 365) + 182 * 365 - 181 * 366) (366 * 365)))
   -- ICMA 12M, 2021-03-01 to 2021-06-01, roll 2022-01-01: 92/365
-  pub k : Fraction conv.ActActICMA (on 2021 3 1) (on 2021 6 1) (rolling (months (pos 12)) (on 2022 1 1)) (given (over 92 365))
+  pub k : Fraction conv.ActActICMA (on 2021 3 1) (on 2021 6 1) (rolledFrom (on 2022 1 1) (months (pos 12))) (given (over 92 365))
   -- modified, 2021-07-31, no holidays: 2021-07-30
   pub l : adjustDate rule.Modified (on 2021 7 31) [] ≡ given (on 2021 7 30)
   -- accrued on the note above, 2021-04-15: exactly 1800/181

@@ -26,7 +26,7 @@ use Rattle.period_steps.proofs.OneOutcome.{add-numbered, sub-numbered}
 use Rattle.period_text.specs.PeriodTexts.{periodText}
 use Rattle.day_adjust.specs.Adjustment.{adjustDate}
 use Rattle.day_adjust.proofs.OneOutcome.{adjust-numbered}
-use Rattle.day_count_conv.specs.Conventions.{conventionOf, yearFraction, inBits}
+use Rattle.day_count_conv.specs.Conventions.{conventionOf, yearFraction, inBits, rolledFrom}
 use Rattle.day_count_conv.specs.declared.Extras.{Extras}
 use Rattle.day_count_conv.proofs.OneOutcome.{fraction-numbered, convention-numbered}
 use Rattle.cash_amount.specs.declared.Currency.{Currency}
@@ -37,7 +37,7 @@ use Rattle.bond.specs.Notes.{noteChecks}
 use Rattle.bond.specs.declared.Note.{Note}
 use Rattle.note_limits.specs.declared.NoteNumber.{NoteNumber}
 use Rattle.bond.proofs.OneOutcome.{checks-numbered}
-use Rattle.packed_note.specs.Codes.{unitOfCode}
+use Rattle.packed_codes.specs.Codes.{unitOfCode}
 use Rattle.packed_write.specs.Writing.{packedNote}
 use Rattle.packed_write.proofs.OneOutcome.{write-numbered}
 use Rattle.rollout.specs.Rollout.{fitted}
@@ -51,9 +51,9 @@ use Rattle.listed_flows.specs.Listed.{listedWritten}
 use Rattle.listed_flows.proofs.OneOutcome.{listed-numbered}
 use Rattle.rates.specs.Rates.{discountFactor, discountedStream}
 use Rattle.rates.proofs.OneOutcome.{factor-numbered, stream-numbered}
-use Rattle.hand_over.specs.HandOver.{HandsOver, passedAs}
-use Rattle.hand_over.proofs.OneOutcome.{one-handed, passed-numbered}
-use Rattle.exports.specs.Numbers.{date, periodOf, adjustmentOf, rolledFrom, flatRate, noteOf}
+use Rattle.hand_over_plain.specs.HandOver.{HandsOver, passedAs}
+use Rattle.hand_over_plain.proofs.OneOutcome.{one-handed, passed-numbered}
+use Rattle.exports.specs.Numbers.{date, periodOf, adjustmentOf, flatRate, noteOf}
 use Rattle.exports.specs.Rooms.{textIn, decimalShown, flowsIn, listedIn}
 
 -- ---- one outcome, by what is lent: `one-handed` and `one-number` of hand_over for one number and for none

@@ -18,7 +18,7 @@ use Rattle.cash_flow.specs.declared.CashFlow.{CashFlow}
 use Rattle.rollout.specs.Rollout.{dayOf, amountOf}
 use Rattle.listed_flows.specs.Listed.{Listed}
 use Rattle.listed_flows.specs.Listed.{ListedContents}
-use Rattle.hand_over.specs.HandOver.{HandsOver, passedAs}
+use Rattle.hand_over_plain.specs.HandOver.{HandsOver, passedAs}
 use Rattle.exports.specs.Rooms.{textIn, decimalShown, flowsIn, listedIn}
 
 -- of the old and the new bytes d and e, and of the place for the length before and after

@@ -12,9 +12,6 @@ use Rattle.time_period.specs.declared.TimePeriod.{TimePeriod}
 use Rattle.day_adjust.specs.declared.DayAdjust.{DayAdjust}
 use Rattle.day_count_conv.specs.Conventions.{conventionOf}
 use Rattle.day_count_conv.specs.declared.DayCountConv.{DayCountConv}
-use Rattle.day_count_conv.specs.declared.Extras.{Extras}
-use Rattle.day_count_conv.specs.declared.RollDate.the-variants as roll-date
-use Rattle.day_count_conv.specs.declared.RollPeriod.the-variants as roll-period
 use Rattle.cash_amount.specs.declared.Currency.{Currency}
 use Rattle.cash_flow.specs.declared.CashFlow.{CashFlow}
 use Rattle.rates.specs.declared.FlatRate.{FlatRate}
@@ -22,7 +19,7 @@ use Rattle.note_limits.specs.declared.NoteNumber.{NoteNumber}
 use Rattle.bond.specs.declared.Note.{Note}
 use Rattle.exports.specs.declared.AdjustmentAnswer.{AdjustmentAnswer}
 use Rattle.exports.specs.declared.AdjustmentAnswer.the-variants as adjustment-answer
-use Rattle.packed_note.specs.Codes.{unitOfCode, ruleOfCode}
+use Rattle.packed_codes.specs.Codes.{unitOfCode, ruleOfCode}
 
 -- numbers that need no code
 abbrev pub serialDay : ℕ → Day
@@ -52,10 +49,6 @@ adjustmentOutcome (adjustment-answer.Refused n) = refused n
 -- an adjustment's packed code: none, following, preceding, modified = 0 to 3
 unfoldable pub adjustmentOf : ℕ → Outcome DayAdjust
 adjustmentOf code = unless (ltb code 4) 18 (given (ruleOfCode code))
-
--- a roll date and a period, for ICMA
-abbrev pub rolledFrom : Date → TimePeriod → Extras
-rolledFrom t p = record { roll = roll-date.Date t; period = roll-period.Period p }
 
 -- a rate to discount at
 abbrev pub flatRate : Float → DayCountConv → Currency → FlatRate

@@ -12,7 +12,7 @@ use Rattle.room.specs.Room.{roomAfter}
 use Rattle.cash_flow.specs.declared.CashFlow.{CashFlow}
 use Rattle.rollout.specs.Rollout.{dayOf, amountOf}
 use Rattle.listed_flows.specs.Listed.{Listed}
-use Rattle.hand_over.specs.HandOver.{passedAs}
+use Rattle.hand_over_plain.specs.HandOver.{passedAs}
 
 -- text in lent bytes: how many it takes, and the bytes with it in front; 16 where they are too few
 unfoldable pub textIn : List ℕ → List ℕ → Outcome (ℕ × List ℕ)

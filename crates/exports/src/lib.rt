@@ -14,7 +14,7 @@ ghost use Rattle.coupon_date.specs.Coupons.{couponDate};
 ghost use Rattle.coupon_text.specs.CouponTexts.{couponText, couponDateText};
 ghost use Rattle.holidays.specs.Answers.{isBusinessDay, bdaysLater, bdaysEarlier};
 ghost use Rattle.day_adjust.specs.Adjustment.{adjustDate};
-ghost use Rattle.day_count_conv.specs.Conventions.{conventionOf, yearFraction, inBits};
+ghost use Rattle.day_count_conv.specs.Conventions.{conventionOf, yearFraction, inBits, none, rolledFrom};
 ghost use Rattle.amount_rounding.specs.RoundedAmounts.{round2digitsOf};
 ghost use Rattle.cash_flow.specs.Flows.{sameFlows};
 ghost use Rattle.cash_flow_text.specs.Texts.{flowShown};
@@ -26,10 +26,11 @@ ghost use Rattle.packed_write.specs.Writing.{packedNote};
 ghost use Rattle.note_listing.specs.Listing.{listing};
 ghost use Rattle.listed_flows.specs.Listed.{listed};
 ghost use Rattle.listed_flows.specs.Listed.{shortest, listedWritten};
-ghost use Rattle.rates.specs.Rates.{none, discountFactor, discountedStream};
+ghost use Rattle.rates.specs.Rates.{discountFactor, discountedStream};
 ghost use Rattle.listed_rates.specs.Listed.{flowsOf};
-ghost use Rattle.hand_over.specs.HandOver.{HandsOver, passedAs, coded, yesNo};
-ghost use Rattle.exports.specs.Numbers.{serialDay, date, coupon, currency, flow, periodOf, adjustmentOutcome, adjustmentOf, rolledFrom, flatRate, noteNumber, noteOf};
+ghost use Rattle.hand_over_plain.specs.HandOver.{HandsOver, passedAs, yesNo};
+ghost use Rattle.hand_over.specs.Coded.{coded};
+ghost use Rattle.exports.specs.Numbers.{serialDay, date, coupon, currency, flow, periodOf, adjustmentOutcome, adjustmentOf, flatRate, noteNumber, noteOf};
 ghost use Rattle.exports.specs.Rooms.{textIn, decimalShown, flowsIn, listedIn};
 use bond::Note;
 use bond::NoteAnswer;
@@ -60,7 +61,7 @@ enum AdjustmentAnswer {
 fn period_of(num: i32, unit: u32) -> PeriodAnswer
     ensures { λ r. ⌜ periodOutcome r ≡ periodOf num unit ⌝ }
 {
-    match packed_note::unit_of_code(unit) {
+    match packed_codes::unit_of_code(unit) {
         UnitAnswer::Unit(u) => PeriodAnswer::Period(TimePeriod { num, unit: u }),
         UnitAnswer::Refused(n) => PeriodAnswer::Refused(n),
     }
@@ -73,15 +74,7 @@ fn adjustment_of(code: u32) -> AdjustmentAnswer
     if LAST_ADJUSTMENT < code {
         return AdjustmentAnswer::Refused(paper::MALFORMED_RECORD);
     }
-    AdjustmentAnswer::Adjustment(packed_note::rule_of_code(code))
-}
-
-fn no_extras() -> Extras
-    ensures { λ r. ⌜ r ≡ none ⌝ }
-{
-    let roll = RollDate::Absent;
-    let period = RollPeriod::Absent;
-    Extras { roll, period }
+    AdjustmentAnswer::Adjustment(packed_codes::rule_of_code(code))
 }
 
 fn rolled_from(t: Date, p: TimePeriod) -> Extras
@@ -155,7 +148,7 @@ fn note_of(
         third: c3,
     };
     match period_of(period_num, period_unit) {
-        PeriodAnswer::Period(period) => match day_count_conv::convention_of(rule) {
+        PeriodAnswer::Period(period) => match convention_codes::convention_of(rule) {
             ConventionAnswer::Convention(c) => match adjustment_of(adjustment) {
                 AdjustmentAnswer::Adjustment(a) => NoteAnswer::Note(Note {
                     number,
@@ -375,7 +368,7 @@ pub extern "C" fn notes_write_coupon_date(
 pub extern "C" fn notes_is_business_day(serial: u32, holidays: &[u32], yes: &mut u32) -> u32
     ensures { λ r. ⌜ HandsOver (passedAs yesNo (isBusinessDay (serialDay serial) (now (holidays .entry)))) r (now (yes .entry)) (now (yes .exit)) ⌝ }
 {
-    hand_over::hand_business(holidays::is_business_day(Day(serial), holidays), yes)
+    hand_over::hand_business(business_days::is_business_day(Day(serial), holidays), yes)
 }
 
 // The serial day k business days on.
@@ -383,7 +376,7 @@ pub extern "C" fn notes_is_business_day(serial: u32, holidays: &[u32], yes: &mut
 pub extern "C" fn notes_bdays_later(serial: u32, k: u32, holidays: &[u32], found: &mut u32) -> u32
     ensures { λ r. ⌜ HandsOver (bdaysLater (serialDay serial) k (now (holidays .entry))) r (record { 0 = now (found .entry) }) (record { 0 = now (found .exit) }) ⌝ }
 {
-    hand_over::hand_day(holidays::bdays_later(Day(serial), k, holidays), found)
+    hand_over::hand_day(business_days::bdays_later(Day(serial), k, holidays), found)
 }
 
 // The serial day k business days back.
@@ -391,7 +384,10 @@ pub extern "C" fn notes_bdays_later(serial: u32, k: u32, holidays: &[u32], found
 pub extern "C" fn notes_bdays_earlier(serial: u32, k: u32, holidays: &[u32], found: &mut u32) -> u32
     ensures { λ r. ⌜ HandsOver (bdaysEarlier (serialDay serial) k (now (holidays .entry))) r (record { 0 = now (found .entry) }) (record { 0 = now (found .exit) }) ⌝ }
 {
-    hand_over::hand_day(holidays::bdays_earlier(Day(serial), k, holidays), found)
+    hand_over::hand_day(
+        business_days::bdays_earlier(Day(serial), k, holidays),
+        found,
+    )
 }
 
 // The date that a date is adjusted to.
@@ -432,7 +428,7 @@ pub extern "C" fn notes_year_fraction(
 ) -> u32
     ensures { λ r. ⌜ HandsOver (andThen (conventionOf rule) (λ c. yearFraction inBits c (date «start_year» «start_month» «start_day») (date «end_year» «end_month» «end_day») none)) r (now (fraction .entry)) (now (fraction .exit)) ⌝ }
 {
-    match day_count_conv::convention_of(rule) {
+    match convention_codes::convention_of(rule) {
         ConventionAnswer::Convention(c) => {
             let start = Date {
                 year: start_year,
@@ -444,7 +440,7 @@ pub extern "C" fn notes_year_fraction(
                 month: end_month,
                 day: end_day,
             };
-            let answer = day_count_conv::year_fraction(c, start, end, no_extras());
+            let answer = day_count_conv::fraction_between(c, start, end);
             hand_over::hand_fraction(answer, fraction)
         }
         ConventionAnswer::Refused(n) => n,
@@ -470,7 +466,7 @@ pub extern "C" fn notes_year_fraction_rolled(
 ) -> u32
     ensures { λ r. ⌜ HandsOver (andThen (conventionOf rule) (λ c. andThen (periodOf num unit) (λ p. yearFraction inBits c (date «start_year» «start_month» «start_day») (date «end_year» «end_month» «end_day») (rolledFrom (date «roll_year» «roll_month» «roll_day») p)))) r (now (fraction .entry)) (now (fraction .exit)) ⌝ }
 {
-    match day_count_conv::convention_of(rule) {
+    match convention_codes::convention_of(rule) {
         ConventionAnswer::Convention(c) => match period_of(num, unit) {
             PeriodAnswer::Period(p) => {
                 let start = Date {
@@ -874,7 +870,7 @@ pub extern "C" fn notes_discount_factor(
 ) -> u32
     ensures { λ r. ⌜ HandsOver (andThen (conventionOf rule) (λ c. discountFactor (flatRate rate c (currency c1 c2 c3)) (date «today_year» «today_month» «today_day») (date «pay_year» «pay_month» «pay_day»))) r (now (factor .entry)) (now (factor .exit)) ⌝ }
 {
-    match day_count_conv::convention_of(rule) {
+    match convention_codes::convention_of(rule) {
         ConventionAnswer::Convention(c) => {
             let x = flat_rate(rate, c, c1, c2, c3);
             let today = Date {
@@ -911,7 +907,7 @@ pub extern "C" fn notes_discount_flows(
 ) -> u32
     ensures { λ r. ⌜ HandsOver (andThen (conventionOf rule) (λ c. discountedStream (flatRate rate c (currency c1 c2 c3)) (date «today_year» «today_month» «today_day») (flowsOf (now (days .entry)) (now (currencies .entry)) (now (amounts .entry))))) r (now (amount .entry)) (now (amount .exit)) ⌝ }
 {
-    match day_count_conv::convention_of(rule) {
+    match convention_codes::convention_of(rule) {
         ConventionAnswer::Convention(c) => {
             let x = flat_rate(rate, c, c1, c2, c3);
             let today = Date {

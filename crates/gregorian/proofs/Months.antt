@@ -157,20 +157,20 @@ late : (k : ℕ) → k < 11 → eqb (before (lengthIn false) (k + 3) + 1) (befor
 unfolding before lengthIn passes
 late = passes-at (λ k. eqb (before (lengthIn false) (k + 3) + 1) (before (lengthIn true) (k + 3))) 11 refl
 
--- 367 days in twelve months, spread evenly, of which February lacks two
-unfoldable pub evenly : ℕ → ℕ
-evenly m = (367 * m - 362) / 12
+-- a common year's months from March on, by a product and a shift
+pub common-early : (m : ℕ) → 1 ≤ m → m < 3 → 31 * (m - 1) ≡ before (lengthIn false) m
+unfolding before lengthIn
+common-early zero l h = absurd (omega arith)
+common-early (suc zero) l h = refl
+common-early (suc (suc zero)) l h = refl
+common-early (suc (suc (suc m))) l h = absurd (omega arith)
 
-pub common-early : (m : ℕ) → m < 3 → evenly m ≡ before (lengthIn false) m
-unfolding before lengthIn passes evenly
-common-early m h = eqb-true (evenly m) (before (lengthIn false) m) (passes-at (λ (k : ℕ). eqb (evenly k) (before (lengthIn false) k)) 3 refl m h)
-
-pub common-late : (m : ℕ) → 3 ≤ m → m ≤ 13 → evenly m - 2 ≡ before (lengthIn false) m
-unfolding before lengthIn passes evenly
+pub common-late : (m : ℕ) → 3 ≤ m → m ≤ 13 → (979 * m - 1031) / 32 ≡ before (lengthIn false) m
+unfolding before lengthIn passes
 common-late m l h =
     let e : m - 3 + 3 ≡ m = omega arith in
-    rw e at (eqb-true (evenly (m - 3 + 3) - 2) (before (lengthIn false) (m - 3 + 3))
-    (passes-at (λ (k : ℕ). eqb (evenly (k + 3) - 2) (before (lengthIn false) (k + 3))) 11 refl (m - 3) (omega arith)))
+    rw e at (eqb-true ((979 * (m - 3 + 3) - 1031) / 32) (before (lengthIn false) (m - 3 + 3))
+    (passes-at (λ (k : ℕ). eqb ((979 * (k + 3) - 1031) / 32) (before (lengthIn false) (k + 3))) 11 refl (m - 3) (omega arith)))
 
 pub before-early : (y m : ℕ) → m < 3 → before (lengthIn false) m ≡ beforeMonth y m
 unfolding monthLength
@@ -185,20 +185,6 @@ before-late y m l h k =
 pub before-common : (y m : ℕ) → leap y ≡ false → before (lengthIn false) m ≡ beforeMonth y m
 unfolding monthLength
 before-common y m l = rw l
-
--- the k + 1-st month begins at the latest after 31 days for each month before it, and the k + 3-rd not before 32 days for each
-pub begins-by : (y k : ℕ) → beforeMonth y (suc k) ≤ 31 * k
-unfolding before
-begins-by y zero = omega (arith, before-first y)
-begins-by y (suc k) = omega (arith, begins-by y k, at-most y (suc k))
-
-wide : (b : Bool) (k : ℕ) → k < 11 → leb (32 * suc k) (before (lengthIn b) (k + 3)) ≡ true
-unfolding before lengthIn passes
-wide = in-both (λ b k. leb (32 * suc k) (before (lengthIn b) (k + 3))) 11 refl refl
-
-pub begins-from : (y k : ℕ) → k < 11 → 32 * suc k ≤ beforeMonth y (k + 3)
-unfolding monthLength
-begins-from y k h = leb-true (32 * suc k) (before (lengthIn (leap y)) (k + 3)) (wide (leap y) k h)
 
 -- counted from March the months follow one rule, and from March to the new year there are 306 days
 from-march-in : (b : Bool) (k : ℕ) → k < 11 → eqb (before (lengthIn b) (k + 3) + 306) (before (lengthIn b) 13 + (153 * k + 2) / 5) ≡ true

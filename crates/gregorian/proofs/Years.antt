@@ -1,16 +1,15 @@
 -- The Gregorian cycle: 400 years of 146097 days, over and over.
 -- Assumes nothing.
-use Prim.Native.Nat.{ℕ, zero, suc, _+_, _-_, _*_, _/_, _%_, _≤_, _<_}
+use Prim.Native.Nat.{ℕ, zero, suc, _+_, _-_, _*_, _/_, _%_, _≤_}
 use mathlib.Core.Path.{_≡_, refl, sym, _∙_, ap}
 use mathlib.Core.Bool.{Bool, true, false}
 use native.Mathlib.Omega.{arith}
 use native.Mathlib.Nat.{add-suc}
-use native.Mathlib.Decide.{decLt}
 use lib.Dec.{eqb}
-use borrow.Author.Tests.{eqb-true, eqb-false}
+use borrow.Author.Tests.{eqb-true, eqb-false, ne-eqb}
 use Rattle.paper.specs.Outcome.{pick}
 use Rattle.gregorian.specs.Gregorian.{leap, yearLength, before, beforeYear}
-use Rattle.gregorian.proofs.Counting.{before-suc, before-mono}
+use Rattle.gregorian.proofs.Counting.{before-suc}
 
 pub leap-cycle : (q r : ℕ) → leap (400 * q + r) ≡ leap r
 unfolding leap
@@ -111,20 +110,8 @@ by-rule-of-leaps y h =
     let e : suc n ≡ y = omega arith in
     taken-off (beforeYear y) n (n / 4) (n / 100) (n / 400) (rw e at (closed n)) (omega arith)
 
--- the year of the e-th day, of 365 days each: that one, or that before it
-pub in-365 : (n e : ℕ) → e ≤ 365 * n + 365 → e ≤ 146097 → beforeYear (suc n) < e → (1 ≤ suc n) × (suc n ≤ 400) × (beforeYear (suc n) < e) × (e ≤ beforeYear (suc (suc n)))
-in-365 n e u m h = (omega arith, by (decLt n 400), h, omega (arith, closed (suc n)))
-  where
-    by : Dec (n < 400) → suc n ≤ 400
-    by (yes l) = omega arith
-    by (no l) = absurd (omega (arith, whole, before-mono yearLength 401 (suc n) (omega arith)))
-
-pub before-365 : (n e : ℕ) → 365 * n < e → e ≤ 146097 → e ≤ beforeYear (suc n) → (1 ≤ n) × (n ≤ 400) × (beforeYear n < e) × (e ≤ beforeYear (suc n))
-before-365 zero e l m h = absurd (omega (arith, before-one))
-before-365 (suc n) e l m h = (omega arith, omega arith, omega (arith, closed n), h)
-
 -- of the hundreds those that 16 divides are those that 400 does
-pub hundreds : (y : ℕ) → y % 100 ≡ 0 → eqb (y % 16) 0 ≡ eqb (y % 400) 0
+hundreds : (y : ℕ) → y % 100 ≡ 0 → eqb (y % 16) 0 ≡ eqb (y % 400) 0
 hundreds y h = by (eqb (y % 16) 0) (eqb (y % 400) 0) refl refl
   where
     by : (b c : Bool) → eqb (y % 16) 0 ≡ b → eqb (y % 400) 0 ≡ c → eqb (y % 16) 0 ≡ eqb (y % 400) 0
@@ -137,3 +124,18 @@ hundreds y h = by (eqb (y % 16) 0) (eqb (y % 400) 0) refl refl
         let k : y ≡ 400 * (b - 6 * c) = omega arith in
         absurd (omega (arith, eqb-false (y % 400) 0 q))
     by false true p q = absurd (omega (arith, eqb-false (y % 16) 0 p, eqb-true (y % 400) 0 q))
+
+-- of those that 25 divides the leap years are those that 16 divides, and of the others those that 4 divides
+pub leap-of-25 : (y : ℕ) → y % 25 ≡ 0 → eqb (y % 16) 0 ≡ leap y
+unfolding leap
+leap-of-25 y h = by (eqb (y % 100) 0) refl
+  where
+    by : (b : Bool) → eqb (y % 100) 0 ≡ b → eqb (y % 16) 0 ≡ pick (eqb (y % 100) 0) (eqb (y % 400) 0) (eqb (y % 4) 0)
+    by true p = rw p (hundreds y (eqb-true (y % 100) 0 p))
+    by false p =
+        let odd : y % 4 ≡ 0 → ⊥ = λ e. let k : y ≡ 100 * (y / 4 - 6 * (y / 25)) = omega arith in omega (arith, eqb-false (y % 100) 0 p) in
+        rw (p, ne-eqb (y % 4) 0 odd, ne-eqb (y % 16) 0 (λ e. odd (omega arith)))
+
+pub leap-of-others : (y : ℕ) → (y % 25 ≡ 0 → ⊥) → eqb (y % 4) 0 ≡ leap y
+unfolding leap
+leap-of-others y h = rw (ne-eqb (y % 100) 0 (λ e. h (omega arith)))

@@ -412,8 +412,8 @@ const FIRST_OF_YEAR: [u32; 400] = [
 pub fn is_leap(year: u32) -> bool
     ensures { λ r. ⌜ r ≡ leap year ⌝ }
 {
-    // Of the hundreds those that 16 divides are those that 400 does, and 16 takes no division.
-    if year % 100 == 0 {
+    // Of those that 25 divides the leap years are those that 16 divides, and 16 takes no division.
+    if year % 25 == 0 {
         year % 16 == 0
     } else {
         year % 4 == 0
@@ -443,22 +443,16 @@ pub fn length_of_year(year: u32) -> u32
     if is_leap(year) { 366 } else { 365 }
 }
 
-// Inner: the days before 1 January of a year of the calendar.
-pub fn days_before_year(year: u32) -> u32
-    requires { ⌜ (1 ≤ year) × (year ≤ 9999) ⌝ }
-    ensures { λ r. ⌜ r ≡ beforeYear year ⌝ }
-{
-    let past = year - 1;
-    365 * past + past / 4 - past / 100 + past / 400
-}
-
-// The days of a common year before a month of it: month for month 30 or 31, but February lacks two.
+// The days of a common year before a month of it: from March on the months follow one rule, and a shift divides.
 fn common_before_month(month: u32) -> u32
     requires { ⌜ (1 ≤ month) × (month ≤ 13) ⌝ }
     ensures { λ r. ⌜ r ≡ before (lengthIn false) month ⌝ }
 {
-    let even = (367 * month - 362) / 12;
-    if 2 < month { even - 2 } else { even }
+    if 2 < month {
+        (979 * month - 1031) / 32
+    } else {
+        31 * (month - 1)
+    }
 }
 
 // Inner: the days of a year before a month of it; month 13 stands for the next year's first.
@@ -471,19 +465,6 @@ pub fn days_before_month(year: u32, month: u32) -> u32
         return common;
     }
     if is_leap(year) { common + 1 } else { common }
-}
-
-// Inner: the year that the e-th day of a cycle falls in: the one of years of 365 days, or that before it, since leap days take their room.
-pub fn year_in_cycle(e: u32) -> u32
-    requires { ⌜ (1 ≤ e) × (e ≤ 146097) ⌝ }
-    ensures { λ r. ⌜ (1 ≤ r) × (r ≤ 400) × (beforeYear r < e) × (e ≤ beforeYear (suc r)) ⌝ }
-{
-    let year = (e - 1) / 365 + 1;
-    if days_before_year(year) < e {
-        year
-    } else {
-        year - 1
-    }
 }
 
 // The whole table.

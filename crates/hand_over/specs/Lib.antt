@@ -1,1 +1,1 @@
-pub mod HandOver
+pub mod Coded

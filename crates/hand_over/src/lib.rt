@@ -1,112 +1,40 @@
-// How an answer is handed over to C: the refusal's number is returned, or 0, and only then is what is lent written.
+// How the other answers are handed over to C, and all of them under one name for `exports`.
 ghost use mathlib.Core.Path.{_≡_};
-ghost use Rattle.paper.specs.Outcome.{given, number};
-ghost use Rattle.calendar.specs.Answers.{dayOutcome, daysOutcome, dateOutcome, weekdayOutcome};
+ghost use Rattle.paper.specs.Outcome.{number};
 ghost use Rattle.holidays.specs.Answers.{businessOutcome};
 ghost use Rattle.time_period.specs.Periods.{periodOutcome, frequencyOutcome};
-ghost use Rattle.coupon_date.specs.Coupons.{couponOutcome};
 ghost use Rattle.day_count_conv.specs.Conventions.{fractionOutcome};
 ghost use Rattle.cash_amount.specs.Amounts.{amountOutcome};
 ghost use Rattle.rates.specs.Rates.{factorOutcome};
 ghost use Rattle.cash_flow.specs.Flows.{flowsOutcome};
-ghost use Rattle.text.specs.Writing.{lengthOutcome};
 ghost use Rattle.bond.specs.Notes.{noteOutcome};
-ghost use Rattle.hand_over.specs.HandOver.{HandsOver, yesNo, coded, passedAs};
+ghost use Rattle.hand_over_plain.specs.HandOver.{HandsOver, yesNo, passedAs};
+ghost use Rattle.hand_over.specs.Coded.{coded};
 use bond::NoteAnswer;
-use calendar::DateAnswer;
-use calendar::DayAnswer;
-use calendar::DaysAnswer;
-use calendar::WeekdayAnswer;
 use cash_amount::AmountAnswer;
 use cash_flow::FlowsAnswer;
-use coupon_date::CouponAnswer;
 use day_count_conv::YearFraction;
+pub use hand_over_plain::hand_coupon;
+pub use hand_over_plain::hand_coupon_check;
+pub use hand_over_plain::hand_date;
+pub use hand_over_plain::hand_day;
+pub use hand_over_plain::hand_days;
+pub use hand_over_plain::hand_length;
+pub use hand_over_plain::hand_weekday;
+pub use hand_over_plain::hand_yes_no;
 use holidays::BusinessAnswer;
 use rates::FactorAnswer;
-use text::LengthAnswer;
 use time_period::FrequencyAnswer;
 use time_period::PeriodAnswer;
 
 const ANSWERED: u32 = 0;
 
 // Inner: for `exports`.
-pub fn hand_day(a: DayAnswer, serial: &mut u32) -> u32
-    ensures { λ r. ⌜ HandsOver (dayOutcome a) r (record { 0 = now (serial .entry) }) (record { 0 = now (serial .exit) }) ⌝ }
-{
-    match a {
-        DayAnswer::Day(d) => {
-            *serial = d.0;
-            ANSWERED
-        }
-        DayAnswer::Refused(n) => n,
-    }
-}
-
-// Inner: for `exports`.
-pub fn hand_days(a: DaysAnswer, days: &mut u32) -> u32
-    ensures { λ r. ⌜ HandsOver (daysOutcome a) r (record { 0 = now (days .entry) }) (record { 0 = now (days .exit) }) ⌝ }
-{
-    match a {
-        DaysAnswer::Days(d) => {
-            *days = d.0;
-            ANSWERED
-        }
-        DaysAnswer::Refused(n) => n,
-    }
-}
-
-// Inner: for `exports`.
-pub fn hand_date(a: DateAnswer, year: &mut u32, month: &mut u32, day: &mut u32) -> u32
-    ensures { λ r. ⌜ HandsOver (dateOutcome a) r (record { year = now (year .entry); month = now (month .entry); day = now (day .entry) }) (record { year = now (year .exit); month = now (month .exit); day = now (day .exit) }) ⌝ }
-{
-    match a {
-        DateAnswer::Date(t) => {
-            *year = t.year;
-            *month = t.month;
-            *day = t.day;
-            ANSWERED
-        }
-        DateAnswer::Refused(n) => n,
-    }
-}
-
-// Inner: for `exports`.
-pub fn hand_weekday(a: WeekdayAnswer, weekday: &mut u32) -> u32
-    ensures { λ r. ⌜ HandsOver (weekdayOutcome a) r (now (weekday .entry)) (now (weekday .exit)) ⌝ }
-{
-    match a {
-        WeekdayAnswer::Weekday(w) => {
-            *weekday = w;
-            ANSWERED
-        }
-        WeekdayAnswer::Refused(n) => n,
-    }
-}
-
-// 1 is yes and 0 is no.
-fn number_of(b: bool) -> u32
-    ensures { λ r. ⌜ r ≡ yesNo b ⌝ }
-{
-    if b { 1 } else { 0 }
-}
-
-// Inner: a yes or no that is never refused.
-pub fn hand_yes_no(b: bool, yes: &mut u32) -> u32
-    ensures { λ r. ⌜ HandsOver (given (yesNo b)) r (now (yes .entry)) (now (yes .exit)) ⌝ }
-{
-    *yes = number_of(b);
-    ANSWERED
-}
-
-// Inner: for `exports`.
 pub fn hand_business(a: BusinessAnswer, yes: &mut u32) -> u32
     ensures { λ r. ⌜ HandsOver (passedAs yesNo (businessOutcome a)) r (now (yes .entry)) (now (yes .exit)) ⌝ }
 {
     match a {
-        BusinessAnswer::Business(b) => {
-            *yes = number_of(b);
-            ANSWERED
-        }
+        BusinessAnswer::Business(b) => hand_over_plain::hand_yes_no(b, yes),
         BusinessAnswer::Refused(n) => n,
     }
 }
@@ -133,24 +61,10 @@ pub fn hand_period(a: PeriodAnswer, num: &mut i32, unit: &mut u32) -> u32
             let k = p.num;
             let u = p.unit;
             *num = k;
-            *unit = packed_write::unit_code(u);
+            *unit = packed_codes::unit_code(u);
             ANSWERED
         }
         PeriodAnswer::Refused(n) => n,
-    }
-}
-
-// Inner: for `exports`.
-pub fn hand_coupon(a: CouponAnswer, day: &mut u32, month: &mut u32) -> u32
-    ensures { λ r. ⌜ HandsOver (couponOutcome a) r (record { day = now (day .entry); month = now (month .entry) }) (record { day = now (day .exit); month = now (month .exit) }) ⌝ }
-{
-    match a {
-        CouponAnswer::Coupon(c) => {
-            *day = c.day;
-            *month = c.month;
-            ANSWERED
-        }
-        CouponAnswer::Refused(n) => n,
     }
 }
 
@@ -206,19 +120,6 @@ pub fn hand_flows(a: FlowsAnswer, count: &mut usize) -> u32
     }
 }
 
-// Inner: how many bytes were written into lent bytes.
-pub fn hand_length(a: LengthAnswer, length: &mut usize) -> u32
-    ensures { λ r. ⌜ HandsOver (lengthOutcome a) r (now (length .entry)) (now (length .exit)) ⌝ }
-{
-    match a {
-        LengthAnswer::Length(k) => {
-            *length = k;
-            ANSWERED
-        }
-        LengthAnswer::Refused(n) => n,
-    }
-}
-
 // Inner: of a check nothing is handed over but its number.
 pub fn hand_note_check(a: NoteAnswer) -> u32
     ensures { λ r. ⌜ r ≡ number (noteOutcome a) ⌝ }
@@ -226,15 +127,5 @@ pub fn hand_note_check(a: NoteAnswer) -> u32
     match a {
         NoteAnswer::Note(_) => ANSWERED,
         NoteAnswer::Refused(n) => n,
-    }
-}
-
-// Inner: for `exports`.
-pub fn hand_coupon_check(a: CouponAnswer) -> u32
-    ensures { λ r. ⌜ r ≡ number (couponOutcome a) ⌝ }
-{
-    match a {
-        CouponAnswer::Coupon(_) => ANSWERED,
-        CouponAnswer::Refused(n) => n,
     }
 }

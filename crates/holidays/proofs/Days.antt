@@ -1,12 +1,13 @@
 -- What the next and the previous business day are: the nearest one on its side, or none up to the calendar's end.
 -- Assumes nothing.
-use Prim.Native.Nat.{ℕ, zero, suc, _+_, _-_, _%_, _≤_, _<_}
+use Prim.Native.Nat.{ℕ, zero, suc, _+_, _-_, _*_, _/_, _%_, _≤_, _<_}
 use mathlib.Core.Path.{_≡_, refl, sym, ap, _∙_}
 use mathlib.Core.Bool.{Bool, true, false, _||_, not}
 use mathlib.Core.List.{List}
 use native.Mathlib.Omega.{arith}
 use native.Mathlib.Decide.{decLt}
 use lib.Dec.{leb}
+use borrow.Author.Tests.{le-leb, lt-leb}
 use Rattle.paper.specs.Outcome.{Outcome, given, refused, andThen}
 use Rattle.calendar.specs.Answers.{weekdayOf}
 use Rattle.calendar.specs.declared.Day.{Day}
@@ -19,6 +20,17 @@ use Rattle.holidays.proofs.Steps.{one-last, all-steps, all-refused}
 pub weekend-is : (n : ℕ) → 1 ≤ n → n ≤ 3652059 → isWeekend n ≡ leb 6 ((n + 6) % 7 + 1)
 unfolding isWeekend weekdayOf
 weekend-is n h k = rw (day-is (on n) h k)
+
+-- the same without a division: the part of 2 ^ 32 that a multiplication by its seventh leaves tells the remainder
+part-left : (m : ℕ) → m ≤ 3652065 → m * 613566757 % 4294967296 ≡ 3 * (m / 7) + m % 7 * 613566757
+part-left m h = omega arith
+
+pub weekend-by-part : (n : ℕ) → 1 ≤ n → n ≤ 3652059 → leb 3067833785 ((n + 6) * 613566757 % 4294967296) ≡ isWeekend n
+weekend-by-part n h k = by (decLt ((n + 6) % 7) 5) ∙ sym (weekend-is n h k)
+  where
+    by : Dec ((n + 6) % 7 < 5) → leb 3067833785 ((n + 6) * 613566757 % 4294967296) ≡ leb 6 ((n + 6) % 7 + 1)
+    by (yes l) = lt-leb 3067833785 ((n + 6) * 613566757 % 4294967296) (omega (arith, part-left (n + 6) (omega arith))) ∙ sym (lt-leb 6 ((n + 6) % 7 + 1) (omega arith))
+    by (no l) = le-leb 3067833785 ((n + 6) * 613566757 % 4294967296) (omega (arith, part-left (n + 6) (omega arith))) ∙ sym (le-leb 6 ((n + 6) % 7 + 1) (omega arith))
 
 pub shut-weekend : (t : List ℕ) (n : ℕ) → isWeekend n ≡ true → isBusiness t n ≡ false
 unfolding isBusiness

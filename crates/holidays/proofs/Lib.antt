@@ -1,9 +1,9 @@
 pub mod Table
+pub mod Counted
 pub mod Places
 pub mod Steps
 pub mod Days
 pub mod Parts
 pub mod Walks
-pub mod Judging
 pub mod OneOutcome
 pub mod Examples

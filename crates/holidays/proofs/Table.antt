@@ -16,7 +16,7 @@ use Rattle.paper.proofs.Outcomes.{both-true}
 use Rattle.holidays.specs.Table.{ascendsFrom, ascending, isTable, listed}
 
 -- what an ascending list says of its head and of the rest
-ascends-cons : (low d : ℕ) (ds : List ℕ) → ascendsFrom low (d ∷ ds) ≡ true → (low ≤ d) × (d ≤ 3652059) × (ascendsFrom (d + 1) ds ≡ true)
+pub ascends-cons : (low d : ℕ) (ds : List ℕ) → ascendsFrom low (d ∷ ds) ≡ true → (low ≤ d) × (d ≤ 3652059) × (ascendsFrom (d + 1) ds ≡ true)
 unfolding ascendsFrom
 ascends-cons low d ds e =
     let p = both-true _ _ e in
@@ -91,10 +91,19 @@ module _ (t : List ℕ) (good : Bool) (last i : ℕ) (e : ascending t ≡ both g
   pub within-the-end : length t ≤ i → last ≤ 3652059 → good ≡ ascending t
   within-the-end h k = sym (at-end h ∙ rw (le-leb last 3652059 k) (both-all good))
 
--- a table that is taken ascends
+-- a list that is not too long is taken where it ascends
+pub table-is : (t : List ℕ) → length t ≤ 4096 → isTable t ≡ ascending t
+unfolding isTable
+table-is t h = simp (le-leb (length t) 4096 h)
+
+-- a table that is taken ascends, and is not too long
 pub table-ascends : (t : List ℕ) → isTable t ≡ true → ascending t ≡ true
 unfolding isTable
 table-ascends t e = both-true (leb (length t) 4096) (ascending t) e .1
+
+pub table-most : (t : List ℕ) → isTable t ≡ true → length t ≤ 4096
+unfolding isTable
+table-most t e = leb-true _ _ (both-true (leb (length t) 4096) (ascending t) e .0)
 
 -- the day at a place is listed, and a day that stands at none is not
 pub listed-at : (t : List ℕ) (k : ℕ) → k < length t → listed (getD t k 0) t ≡ true

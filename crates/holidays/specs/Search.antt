@@ -2,10 +2,10 @@
 -- Assumes nothing.
 use Prim.Native.Nat.{ℕ, _≤_, _<_}
 use mathlib.Core.Path.{_≡_}
-use mathlib.Core.Bool.{true}
+use mathlib.Core.Bool.{true, false}
 use mathlib.Core.List.{List}
 use lib.ListN.{length, getD}
-use Rattle.holidays.specs.Table.{ascending}
+use Rattle.holidays.specs.Table.{ascending, isTable}
 
 -- a serial day of the calendar, and holidays that ascend, however many
 pub record Judged (n : ℕ) (t : List ℕ) : Type 0 where
@@ -19,3 +19,8 @@ pub record Splits (t : List ℕ) (n i : ℕ) : Type 0 where
   pub within : i ≤ length t
   pub before : (k : ℕ) → k < i → getD t k 0 < n
   pub after : (k : ℕ) → i ≤ k → k < length t → n ≤ getD t k 0
+
+-- a day's place in a table that is taken; 4,097 and more are no place, of a table that is not
+pub record Placed (t : List ℕ) (n i : ℕ) : Type 0 where
+  pub taken : i < 4097 → (isTable t ≡ true) × Splits t n i
+  pub refused : 4097 ≤ i → isTable t ≡ false

@@ -1,4 +1,4 @@
-// Business days over a lent holiday table: what finql asks of `cal_calc`. The weekend is Saturday and Sunday.
+// A lent holiday table, and the business days around a day over one that is judged: what finql asks of `cal_calc`. The weekend is Saturday and Sunday.
 use calendar::Day;
 use calendar::DayAnswer;
 ghost use mathlib.Core.Path.{_≡_};
@@ -9,8 +9,8 @@ ghost use lib.ListN.{length, getD};
 ghost use Rattle.calendar.specs.Answers.{dayOutcome};
 ghost use Rattle.holidays.specs.Table.{ascending};
 ghost use Rattle.holidays.specs.Business.{isWeekend, isBusiness, nextFrom, prevFrom, laterFrom, earlierFrom};
-ghost use Rattle.holidays.specs.Answers.{TablePromise, BusinessPromise, NextPromise, PreviousPromise, LaterPromise, EarlierPromise};
-ghost use Rattle.holidays.specs.Search.{Judged, Splits};
+ghost use Rattle.holidays.specs.Answers.{TablePromise};
+ghost use Rattle.holidays.specs.Search.{Judged, Splits, Placed};
 
 pub enum BusinessAnswer {
     Business(bool),
@@ -19,14 +19,23 @@ pub enum BusinessAnswer {
 
 const MOST_HOLIDAYS: usize = 4096;
 
-// No place of a table is near it.
+// Fewer holidays than this are judged by a loop of their own.
+const SHORT: usize = 32;
+
+// No place of a table, and none is near it.
 pub const NOWHERE: usize = 4097;
 
 const FIRST_DAY: u32 = 1;
 
 const LAST_DAY: u32 = 3652059;
 
-const SATURDAY: u32 = 6;
+const WHOLE: u64 = 4294967296;
+
+// Of the whole, rounded up.
+const SEVENTH: u64 = 613566757;
+
+// From there on it is Saturday, the sixth day of a week, or Sunday.
+const FIVE_SEVENTHS: u64 = 3067833785;
 
 // All days are looked at, good or not, since the compiler then takes many at once; where they ascend the last is the latest.
 fn is_ascending(table: &[u32]) -> bool
@@ -49,21 +58,47 @@ fn is_ascending(table: &[u32]) -> bool
     good
 }
 
+// The same of a short table. What goes wrong is counted, since the compiler then takes eight days at once, and 32 where it is a yes or no.
+fn few_ascend(table: &[u32]) -> bool
+    requires { ⌜ length (now table) ≤ 32 ⌝ }
+    ensures { λ r. ⌜ r ≡ ascending (now (table .entry)) ⌝ }
+{
+    let mut wrong: u32 = 0;
+    let mut last: u32 = 0;
+    let mut i: usize = 0;
+    while i < table.len() {
+        let next = table[i];
+        if next <= last {
+            wrong += 1;
+        }
+        last = next;
+        i += 1;
+    }
+    if LAST_DAY < last {
+        return false;
+    }
+    wrong == 0
+}
+
 // Whether a holiday table is taken; where it is not, every question over it is refused with 13.
 pub fn is_table(table: &[u32]) -> bool
     ensures { λ r. ⌜ TablePromise (now (table .entry)) r ⌝ }
 {
+    if table.len() < SHORT {
+        return few_ascend(table);
+    }
     if MOST_HOLIDAYS < table.len() {
         return false;
     }
     is_ascending(table)
 }
 
+// Times a seventh, whole weeks are whole numbers and fall away, but for less than a seventh: no division is left.
 fn is_weekend(n: u32) -> bool
     requires { ⌜ (1 ≤ n) × (n ≤ 3652059) ⌝ }
     ensures { λ r. ⌜ r ≡ isWeekend n ⌝ }
 {
-    SATURDAY <= (n + 6) % 7 + 1
+    FIVE_SEVENTHS <= (n as u64 + 6) * SEVENTH % WHOLE
 }
 
 // Inner: the place of the first holiday that is not before a day, by halving.
@@ -118,6 +153,48 @@ pub fn first_near(table: &[u32], n: u32, near: usize) -> usize
         i += 1;
     }
     i
+}
+
+// Of a short table, judged by the way: the holidays before a day are counted, eight at once, which is its place.
+fn few_before(table: &[u32], n: u32) -> usize
+    requires { ⌜ length (now table) ≤ 32 ⌝ }
+    ensures { λ r. ⌜ Placed (now (table .entry)) n r ⌝ }
+{
+    let mut wrong: u32 = 0;
+    let mut before: u32 = 0;
+    let mut last: u32 = 0;
+    let mut i: usize = 0;
+    while i < table.len() {
+        let at = table[i];
+        if at <= last {
+            wrong += 1;
+        }
+        if at < n {
+            before += 1;
+        }
+        last = at;
+        i += 1;
+    }
+    if LAST_DAY < last {
+        return NOWHERE;
+    }
+    if 0 < wrong {
+        return NOWHERE;
+    }
+    before as usize
+}
+
+// Inner: the same place, of a table that is not judged yet; NOWHERE for one that is not taken.
+pub fn place_in(table: &[u32], n: u32) -> usize
+    ensures { λ r. ⌜ Placed (now (table .entry)) n r ⌝ }
+{
+    if table.len() < SHORT {
+        return few_before(table, n);
+    }
+    if !is_table(table) {
+        return NOWHERE;
+    }
+    first_from(table, n)
 }
 
 // Day by day, with the next holiday alongside: over the part of the table that begins with the first holiday after n.
@@ -226,57 +303,4 @@ pub fn prev_at(n: u32, table: &[u32], i: usize) -> DayAnswer
     ensures { λ r. ⌜ dayOutcome r ≡ prevFrom (now (table .entry)) n ⌝ }
 {
     walk_back(&table[..i], n, 1)
-}
-
-pub fn is_business_day(d: Day, table: &[u32]) -> BusinessAnswer
-    ensures { λ r. ⌜ BusinessPromise d (now (table .entry)) r ⌝ }
-{
-    if !calendar::is_day(d) {
-        return BusinessAnswer::Refused(paper::INVALID_DATE);
-    }
-    if !is_table(table) {
-        return BusinessAnswer::Refused(paper::BAD_HOLIDAY_TABLE);
-    }
-    let i = first_from(table, d.0);
-    BusinessAnswer::Business(business_at(d.0, table, i))
-}
-
-// k business days on; 0 of them stay on the day, a business day or not.
-pub fn bdays_later(d: Day, k: u32, table: &[u32]) -> DayAnswer
-    ensures { λ r. ⌜ LaterPromise d k (now (table .entry)) r ⌝ }
-{
-    if !calendar::is_day(d) {
-        return DayAnswer::Refused(paper::INVALID_DATE);
-    }
-    if !is_table(table) {
-        return DayAnswer::Refused(paper::BAD_HOLIDAY_TABLE);
-    }
-    later_from(d.0, k, table)
-}
-
-// k business days back; 0 of them stay on the day, a business day or not.
-pub fn bdays_earlier(d: Day, k: u32, table: &[u32]) -> DayAnswer
-    ensures { λ r. ⌜ EarlierPromise d k (now (table .entry)) r ⌝ }
-{
-    if !calendar::is_day(d) {
-        return DayAnswer::Refused(paper::INVALID_DATE);
-    }
-    if !is_table(table) {
-        return DayAnswer::Refused(paper::BAD_HOLIDAY_TABLE);
-    }
-    earlier_from(d.0, k, table)
-}
-
-// The next business day, strictly later.
-pub fn next_bday(d: Day, table: &[u32]) -> DayAnswer
-    ensures { λ r. ⌜ NextPromise d (now (table .entry)) r ⌝ }
-{
-    bdays_later(d, 1, table)
-}
-
-// The previous business day, strictly earlier.
-pub fn prev_bday(d: Day, table: &[u32]) -> DayAnswer
-    ensures { λ r. ⌜ PreviousPromise d (now (table .entry)) r ⌝ }
-{
-    bdays_earlier(d, 1, table)
 }

@@ -19,11 +19,12 @@ use Rattle.cash_amount.specs.declared.Currency.{Currency}
 use Rattle.cash_flow.specs.Flows.{dateOn}
 use Rattle.day_fraction.specs.Fractions.{Span, over, days, bits, impossible}
 use Rattle.day_fraction.proofs.Differences.{diff-of, diff-pos}
-use Rattle.day_count_conv.specs.Conventions.{inBits, simpleFraction}
+use Rattle.day_count_conv.specs.Conventions.{inBits, none, simpleFraction}
 use Rattle.day_count_conv.specs.declared.DayCountConv.{DayCountConv}
 use Rattle.day_count_conv.specs.declared.DayCountConv.the-variants as conv
 use Rattle.day_count_conv.proofs.Judged.{span-fraction}
-use Rattle.rates.specs.Rates.{none, factorOf, fractionTo, isOneCurrency, flowValue, flowAdded}
+use Rattle.rate_factors.specs.Factors.{factorOf}
+use Rattle.rates.specs.Rates.{fractionTo, isOneCurrency, flowValue, flowAdded}
 use Rattle.rates.specs.declared.FlatRate.{FlatRate}
 use Rattle.listed_rates.specs.Counted.{yearDays, CountedFrom}
 

@@ -14,7 +14,8 @@ use Rattle.cash_amount.specs.declared.Currency.{Currency}
 use Rattle.day_fraction.specs.Fractions.{exactFraction, bits, impossible}
 use Rattle.day_count_conv.specs.Conventions.{simpleFraction, yearFraction}
 use Rattle.day_count_conv.specs.declared.DayCountConv.the-variants as conv
-use Rattle.rates.specs.Rates.{isRate, factorOf, fractionTo, isOneCurrency, flowValue, flowAdded, streamFrom, discountedStream}
+use Rattle.rate_factors.specs.Factors.{isRate, factorOf}
+use Rattle.rates.specs.Rates.{fractionTo, isOneCurrency, flowValue, flowAdded, streamFrom, discountedStream}
 use Rattle.rates.specs.declared.FlatRate.{FlatRate}
 use Rattle.calendar.specs.Answers.{dateOf}
 use Rattle.cash_flow.specs.Flows.{dateOn}

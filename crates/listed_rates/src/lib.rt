@@ -88,7 +88,7 @@ fn is_counted(from: u32, own: Currency, day: u32, currency: Currency, amount: f6
     if !cash_amount::is_same_currency(own, currency) {
         return false;
     }
-    rates::is_finite(amount)
+    rate_factors::is_finite(amount)
 }
 
 // The flow at place i, added to the sum so far. A date is taken only where days are not enough: it costs more than all the rest.
@@ -124,7 +124,7 @@ fn added_at(
     }
     let rule = rate.day_count_conv;
     let yf = (day - from) as f64 / year_days(rule) as f64;
-    AmountAnswer::Amount(sum + rates::simple_factor(rate.rate, yf) * amount)
+    AmountAnswer::Amount(sum + rate_factors::simple_factor(rate.rate, yf) * amount)
 }
 
 // A stream as lists: serial days, currencies as numbers, and amounts.
@@ -137,7 +137,7 @@ pub fn discount_listed_flows(
 ) -> AmountAnswer
     ensures { λ r. ⌜ ListedPromise rate today (now (days .entry)) (now (currencies .entry)) (now (amounts .entry)) r ⌝ }
 {
-    if !rates::is_rate(rate.rate) {
+    if !rate_factors::is_rate(rate.rate) {
         return AmountAnswer::Refused(paper::NUMBER_OUT_OF_LIMITS);
     }
     let from = counted_from(rate, today);

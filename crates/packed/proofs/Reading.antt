@@ -13,7 +13,8 @@ use Rattle.day_count_conv.specs.Conventions.{conventionOf}
 use Rattle.bond.specs.Notes.{noteChecks}
 use Rattle.bond.specs.declared.Note.{Note}
 use Rattle.bond.proofs.Ends.{passed}
-use Rattle.packed_note.specs.Codes.{unitOfCode, numberGood}
+use Rattle.packed_codes.specs.Codes.{unitOfCode}
+use Rattle.packed_note.specs.Codes.{numberGood}
 use Rattle.packed_numbers.specs.Numbers.{rawOf}
 use Rattle.packed_note.specs.Records.{noteWith, checkedUnit, noteIn}
 use Rattle.packed_numbers.specs.declared.Raw.{Raw}

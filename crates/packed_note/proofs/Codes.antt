@@ -1,4 +1,4 @@
--- Codes and what they stand for, each from the other.
+-- A number's digits in their places of four bits.
 -- Assumes nothing.
 use Prim.Native.Nat.{ℕ, zero, suc, _+_, _-_, _*_, _/_, _%_, _^_, _≤_, _<_}
 use mathlib.Core.Path.{_≡_, refl, sym, ap, _∙_}
@@ -6,30 +6,10 @@ use mathlib.Core.Bool.{Bool, true, false, _&&_}
 use native.Mathlib.Nat.{pow-suc, pow-le-pow-right, div-div-eq-div-mul, div-one}
 use native.Mathlib.Numerals.{add-one}
 use native.Mathlib.Omega.{arith}
-use borrow.Author.Tests.{le-ltb}
 use lib.Dec.{ltb}
 use lib.Pow.{pow-add}
-use Rattle.paper.specs.Outcome.{refused, pick}
-use Rattle.day_adjust.specs.declared.DayAdjust.the-variants as rule
-use Rattle.packed_note.specs.Codes.{unitOfCode, ruleOfCode, placeGood, digitsGood, digitsNumber}
-
--- ---- codes by a `match`
-
-pub unit-else : (n : ℕ) → (n ≡ 0 → ⊥) → (n ≡ 1 → ⊥) → (n ≡ 2 → ⊥) → (n ≡ 3 → ⊥) → (n ≡ 4 → ⊥) → refused 18 ≡ unitOfCode n
-unfolding unitOfCode
-unit-else n a b c d e =
-    let l1 : 1 ≤ n = omega arith in
-    let l2 : 2 ≤ n = omega arith in
-    let l3 : 3 ≤ n = omega arith in
-    let l4 : 4 ≤ n = omega arith in
-    rw (le-ltb n 5 (omega arith))
-
-pub rule-else : (n : ℕ) → (n ≡ 0 → ⊥) → (n ≡ 1 → ⊥) → (n ≡ 2 → ⊥) → rule.Modified ≡ ruleOfCode n
-rule-else zero a b c = absurd (a refl)
-rule-else (suc zero) a b c = absurd (b refl)
-rule-else (suc (suc zero)) a b c = absurd (c refl)
-rule-else (suc (suc (suc zero))) a b c = refl
-rule-else (suc (suc (suc (suc n)))) a b c = refl
+use Rattle.paper.specs.Outcome.{pick}
+use Rattle.packed_note.specs.Codes.{placeGood, digitsGood, digitsNumber}
 
 -- ---- ten places of four bits
 

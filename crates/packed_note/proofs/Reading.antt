@@ -9,7 +9,8 @@ use Rattle.time_period.specs.declared.TimePeriodUnit.{TimePeriodUnit}
 use Rattle.day_count_conv.specs.declared.DayCountConv.{DayCountConv}
 use Rattle.bond.specs.Notes.{noteChecks}
 use Rattle.note_limits.proofs.Limits.{high-bits}
-use Rattle.packed_note.specs.Codes.{unitOfCode, numberGood}
+use Rattle.packed_codes.specs.Codes.{unitOfCode}
+use Rattle.packed_note.specs.Codes.{numberGood}
 use Rattle.packed_note.specs.Records.{noteWith, checkedUnit, noteIn}
 use Rattle.packed_numbers.specs.declared.Raw.{Raw}
 use Rattle.packed_note.proofs.Numbers.{number-accepted}

@@ -16,7 +16,8 @@ use Rattle.bond.specs.Notes.{noteOutcome, noteChecks}
 use Rattle.bond.specs.declared.Note.{Note}
 use Rattle.note_limits.specs.declared.NoteNumber.{NoteNumber}
 use Rattle.bond.specs.declared.NoteAnswer.{NoteAnswer}
-use Rattle.packed_note.specs.Codes.{unitOfCode, ruleOfCode, numberGood, digitsNumber}
+use Rattle.packed_codes.specs.Codes.{unitOfCode, ruleOfCode}
+use Rattle.packed_note.specs.Codes.{numberGood, digitsNumber}
 use Rattle.packed_numbers.specs.declared.Terms.{Terms}
 use Rattle.packed_numbers.specs.declared.Letters.{Letters}
 use Rattle.packed_numbers.specs.declared.Raw.{Raw}

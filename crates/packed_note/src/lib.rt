@@ -3,16 +3,15 @@ ghost use mathlib.Core.Path.{_≡_};
 ghost use Prim.Native.Nat.{_+_, _-_, _*_, _/_, _^_, _≤_, _<_};
 ghost use lib.Dec.{ltb};
 ghost use Rattle.paper.specs.Outcome.{pick, andThen};
-ghost use Rattle.packed_note.specs.Codes.{unitOfCode, ruleOfCode, placeGood, digitsGood, digitsNumber, numberGood};
+ghost use Rattle.packed_codes.specs.Codes.{unitOfCode};
+ghost use Rattle.packed_note.specs.Codes.{placeGood, digitsGood, digitsNumber, numberGood};
 ghost use Rattle.packed_numbers.specs.Numbers.{LettersFit, Fits};
 ghost use Rattle.packed_note.specs.Records.{currencyIn, periodIn, numberIn, noteWith, checkedUnit, NoteInPromise};
-ghost use Rattle.time_period.specs.Periods.{unitOutcome};
 ghost use Rattle.bond.specs.Notes.{noteOutcome, noteChecks};
 ghost use mathlib.Core.Bool.{true};
 use bond::Note;
 use bond::NoteAnswer;
 use cash_amount::Currency;
-use day_adjust::DayAdjust;
 use day_count_conv::ConventionAnswer;
 use day_count_conv::DayCountConv;
 use note_limits::NoteNumber;
@@ -25,32 +24,6 @@ use time_period::UnitAnswer;
 
 // From these bits on a number has its sign bit set or is not finite.
 const NO_RATE: u64 = 0x7ff0_0000_0000_0000;
-
-// Inner: the unit of a packed code; 18: there is none.
-pub fn unit_of_code(code: u32) -> UnitAnswer
-    ensures { λ r. ⌜ unitOutcome r ≡ unitOfCode code ⌝ }
-{
-    match code {
-        0 => UnitAnswer::Unit(TimePeriodUnit::Daily),
-        1 => UnitAnswer::Unit(TimePeriodUnit::BusinessDaily),
-        2 => UnitAnswer::Unit(TimePeriodUnit::Weekly),
-        3 => UnitAnswer::Unit(TimePeriodUnit::Monthly),
-        4 => UnitAnswer::Unit(TimePeriodUnit::Annual),
-        _ => UnitAnswer::Refused(paper::MALFORMED_RECORD),
-    }
-}
-
-// Inner: the adjustment of a packed code; two bits have no other code, so that any other is the last.
-pub fn rule_of_code(code: u32) -> DayAdjust
-    ensures { λ r. ⌜ r ≡ ruleOfCode code ⌝ }
-{
-    match code {
-        0 => DayAdjust::None,
-        1 => DayAdjust::Following,
-        2 => DayAdjust::Preceding,
-        _ => DayAdjust::Modified,
-    }
-}
 
 fn place_good(count: u32, i: u32, n: u64) -> bool
     ensures { λ r. ⌜ r ≡ placeGood count i n ⌝ }
@@ -164,7 +137,7 @@ fn note_with(raw: Raw, unit: TimePeriodUnit, convention: DayCountConv) -> Note
         coupon_date,
         period: period_in(terms, unit),
         day_count_convention: convention,
-        business_day_rule: rule_of_code(terms.adjustment),
+        business_day_rule: packed_codes::rule_of_code(terms.adjustment),
         denomination: raw.denomination,
         rate: f64::from_bits(raw.rate),
         currency: currency_in(letters),
@@ -187,7 +160,7 @@ fn with_unit(raw: Raw, unit: TimePeriodUnit, table: bool) -> NoteAnswer
     ensures { λ r. ⌜ noteOutcome r ≡ checkedUnit table raw unit ⌝ }
 {
     let terms = raw.terms;
-    match day_count_conv::convention_of(terms.convention) {
+    match convention_codes::convention_of(terms.convention) {
         ConventionAnswer::Convention(convention) => checked(raw, unit, convention, table),
         ConventionAnswer::Refused(n) => NoteAnswer::Refused(n),
     }
@@ -198,7 +171,7 @@ fn by_unit(raw: Raw, table: bool) -> NoteAnswer
     ensures { λ r. ⌜ noteOutcome r ≡ andThen (unitOfCode (raw .terms .unit)) (checkedUnit table raw) ⌝ }
 {
     let terms = raw.terms;
-    match unit_of_code(terms.unit) {
+    match packed_codes::unit_of_code(terms.unit) {
         UnitAnswer::Unit(unit) => with_unit(raw, unit, table),
         UnitAnswer::Refused(n) => NoteAnswer::Refused(n),
     }

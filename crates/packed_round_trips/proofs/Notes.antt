@@ -19,7 +19,8 @@ use Rattle.bond.specs.Notes.{noteChecks}
 use Rattle.bond.specs.declared.Note.{Note}
 use Rattle.note_limits.specs.declared.NoteNumber.{NoteNumber}
 use Rattle.bond.proofs.Ends.{passed}
-use Rattle.packed_note.specs.Codes.{unitOfCode, numberGood, digitsGood, digitsNumber}
+use Rattle.packed_codes.specs.Codes.{unitOfCode}
+use Rattle.packed_note.specs.Codes.{numberGood, digitsGood, digitsNumber}
 use Rattle.packed_note.specs.Records.{noteWith, checkedUnit, noteIn}
 use Rattle.packed_numbers.specs.declared.Raw.{Raw}
 use Rattle.packed_write.specs.Codes.{digitsPlaces}

@@ -36,7 +36,8 @@ use Rattle.note_limits.specs.Limits.{isNoteNumber, isRate}
 use Rattle.bond.specs.declared.Note.{Note}
 use Rattle.note_limits.specs.declared.NoteNumber.{NoteNumber}
 use Rattle.bond.proofs.Ends.{Accepted, passed}
-use Rattle.packed_write.specs.Codes.{unitCode, ruleCode}
+use Rattle.packed_codes.specs.Codes.{unitCode}
+use Rattle.packed_write.specs.Codes.{ruleCode}
 use Rattle.packed_write.specs.Fields.{dateFields, couponFields, lettersFields, lettersWith, rawWith}
 use Rattle.packed_write.specs.Pens.{AllFit, RawFits}
 use Rattle.packed_write.specs.Writing.{Packable}

@@ -20,7 +20,8 @@ use Rattle.bond.proofs.Ends.{passed}
 use Rattle.packed_numbers.specs.declared.Terms.{Terms}
 use Rattle.packed_numbers.specs.declared.Letters.{Letters}
 use Rattle.packed_numbers.specs.declared.Raw.{Raw}
-use Rattle.packed_write.specs.Codes.{unitCode, ruleCode, digitsPlaces}
+use Rattle.packed_codes.specs.Codes.{unitCode}
+use Rattle.packed_write.specs.Codes.{ruleCode, digitsPlaces}
 use Rattle.packed_write.specs.Fields.{termsWith, lettersWith, rawWith, recordBytes}
 use Rattle.packed_write.specs.Writing.{packedNote, Packable, WritePromise}
 

@@ -10,26 +10,21 @@ use lib.ListN.{length}
 use lib.IntN.{pos}
 use lib.Signed.{leZ}
 use Rattle.paper.specs.Outcome.{Outcome, given, refused, unless, andThen, pick, Numbered}
-use Rattle.paper.proofs.Outcomes.{given-not-refused, unless-numbered, then-numbered, one-value}
+use Rattle.paper.proofs.Outcomes.{given-not-refused, unless-numbered, then-numbered}
 use Rattle.text.specs.Writing.{writtenLength, writtenBytes, put}
 use Rattle.text.specs.declared.LengthAnswer.{LengthAnswer}
 use Rattle.text.specs.declared.LengthAnswer.the-variants as length-answer
 use Rattle.text.proofs.OneOutcome.{same-length}
 use Rattle.text.proofs.Writers.{written-numbered}
-use Rattle.time_period.specs.declared.TimePeriodUnit.{TimePeriodUnit}
 use Rattle.holidays.specs.Table.{isTable}
 use Rattle.bond.specs.Notes.{noteChecks}
 use Rattle.bond.specs.declared.Note.{Note}
 use Rattle.bond.proofs.OneOutcome.{checks-numbered}
-use Rattle.packed_write.specs.Codes.{unitCode}
 use Rattle.packed_write.specs.Fields.{recordBytes}
 use Rattle.packed_write.specs.Writing.{packedNote, bytesAfter, WritePromise}
 
 pub one-write : (n : Note) (table old d e : List ℕ) (r s : LengthAnswer) → WritePromise n table old d r → WritePromise n table old e s → (r ≡ s) × (d ≡ e)
 one-write n table old d e r s p q = (same-length r s (p .answer ∙ sym (q .answer)), p .bytes ∙ sym (q .bytes))
-
-pub one-unit-code : (u : TimePeriodUnit) (r s : ℕ) → r ≡ unitCode u → s ≡ unitCode u → r ≡ s
-one-unit-code u r s p q = one-value r s p q
 
 packed-numbered : (n : Note) (table : List ℕ) → Numbered (packedNote n table)
 unfolding packedNote

@@ -1,20 +1,10 @@
--- Codes that a note is packed with: units, adjustments, and the places of a number's digits.
+-- Codes that a note is packed with: adjustments, and the places of a number's digits.
 -- Assumes nothing.
 use Prim.Native.Nat.{ℕ, zero, suc, _+_, _*_, _/_, _%_}
 use lib.Dec.{ltb}
 use Rattle.paper.specs.Outcome.{pick}
-use Rattle.time_period.specs.declared.TimePeriodUnit.{TimePeriodUnit}
-use Rattle.time_period.specs.declared.TimePeriodUnit.the-variants as unit
 use Rattle.day_adjust.specs.declared.DayAdjust.{DayAdjust}
 use Rattle.day_adjust.specs.declared.DayAdjust.the-variants as rule
-
--- unit: D, B, W, M, Y = 0 to 4
-abbrev pub unitCode : TimePeriodUnit → ℕ
-unitCode unit.Daily = 0
-unitCode unit.BusinessDaily = 1
-unitCode unit.Weekly = 2
-unitCode unit.Monthly = 3
-unitCode unit.Annual = 4
 
 -- adjustment: none, following, preceding, modified = 0 to 3
 abbrev pub ruleCode : DayAdjust → ℕ

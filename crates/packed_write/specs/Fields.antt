@@ -14,7 +14,8 @@ use Rattle.bond.specs.declared.Note.{Note}
 use Rattle.packed_numbers.specs.declared.Terms.{Terms}
 use Rattle.packed_numbers.specs.declared.Letters.{Letters}
 use Rattle.packed_numbers.specs.declared.Raw.{Raw}
-use Rattle.packed_write.specs.Codes.{unitCode, ruleCode, digitsPlaces}
+use Rattle.packed_codes.specs.Codes.{unitCode}
+use Rattle.packed_write.specs.Codes.{ruleCode, digitsPlaces}
 
 -- digit count 4; ten digits of 4
 abbrev pub numberFields : Raw → List Field

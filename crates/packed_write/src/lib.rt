@@ -11,7 +11,7 @@ ghost use Rattle.bit_fields.specs.Pens.{Drew};
 ghost use Rattle.text.specs.Writing.{Wrote, Written, lengthOutcome};
 ghost use Rattle.holidays.specs.Table.{isTable};
 ghost use Rattle.cash_amount.specs.Amounts.{isCurrency};
-ghost use Rattle.packed_write.specs.Codes.{unitCode, ruleCode, digitsPlaces};
+ghost use Rattle.packed_write.specs.Codes.{ruleCode, digitsPlaces};
 ghost use Rattle.packed_write.specs.Fields.{numberFields, dateFields, couponFields, rulesFields, termsFields, lettersFields, headFields, middleFields, tailFields, rawFields, dayFields, tableFields, termsWith, lettersWith, rawWith, rawBytes, recordBytes};
 ghost use Rattle.packed_write.specs.Pens.{AllFit, RawFits, Ready};
 ghost use Rattle.packed_write.specs.Writing.{Packable, WritePromise};
@@ -26,23 +26,9 @@ use packed_numbers::Letters;
 use packed_numbers::Raw;
 use packed_numbers::Terms;
 use text::LengthAnswer;
-use time_period::TimePeriodUnit;
 
 // The largest number that the 12 bits of a period hold.
 const MOST_NUMBER: i32 = 4095;
-
-// Inner: its packed code.
-pub fn unit_code(unit: TimePeriodUnit) -> u32
-    ensures { λ r. ⌜ r ≡ unitCode unit ⌝ }
-{
-    match unit {
-        TimePeriodUnit::Daily => 0,
-        TimePeriodUnit::BusinessDaily => 1,
-        TimePeriodUnit::Weekly => 2,
-        TimePeriodUnit::Monthly => 3,
-        TimePeriodUnit::Annual => 4,
-    }
-}
 
 fn rule_code(rule: DayAdjust) -> u32
     ensures { λ r. ⌜ r ≡ ruleCode rule ⌝ }
@@ -102,9 +88,9 @@ fn terms_with(note: Note) -> Terms
     let convention = note.day_count_convention;
     let rule = note.business_day_rule;
     Terms {
-        unit: unit_code(unit),
+        unit: packed_codes::unit_code(unit),
         number: text::magnitude(period.num),
-        convention: day_count_conv::code_of(convention),
+        convention: convention_codes::code_of(convention),
         adjustment: rule_code(rule),
     }
 }

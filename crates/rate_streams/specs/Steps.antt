@@ -5,7 +5,8 @@ use Rattle.paper.specs.Outcome.{Outcome, given, unless, andThen}
 use Rattle.calendar.specs.declared.Date.{Date}
 use Rattle.cash_flow.specs.declared.CashFlow.{CashFlow}
 use Rattle.day_fraction.specs.Fractions.{whole}
-use Rattle.rates.specs.Rates.{isRate, flowAdded}
+use Rattle.rate_factors.specs.Factors.{isRate}
+use Rattle.rates.specs.Rates.{flowAdded}
 use Rattle.rates.specs.declared.FlatRate.{FlatRate}
 
 -- what a stream begins with: 15 for the rate, or 0

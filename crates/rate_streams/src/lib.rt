@@ -12,7 +12,7 @@ use rates::FlatRate;
 fn stream_start(rate: FlatRate) -> AmountAnswer
     ensures { λ r. ⌜ amountOutcome r ≡ streamStart rate ⌝ }
 {
-    if !rates::is_rate(rate.rate) {
+    if !rate_factors::is_rate(rate.rate) {
         return AmountAnswer::Refused(paper::NUMBER_OUT_OF_LIMITS);
     }
     AmountAnswer::Amount(0.0)

@@ -16,7 +16,8 @@ use Rattle.day_fraction.specs.Fractions.{exactFraction, bits, impossible}
 use Rattle.day_count_conv.specs.Conventions.{simpleFraction, yearFraction}
 use Rattle.day_count_conv.specs.declared.DayCountConv.{DayCountConv}
 use Rattle.day_count_conv.specs.declared.DayCountConv.the-variants as conv
-use Rattle.rates.specs.Rates.{isRate, factorOf, fractionTo, discountFactor, isOneCurrency, flowValue, discountedFlow, flowAdded, streamFrom, discountedStream}
+use Rattle.rate_factors.specs.Factors.{isRate, factorOf}
+use Rattle.rates.specs.Rates.{fractionTo, discountFactor, isOneCurrency, flowValue, discountedFlow, flowAdded, streamFrom, discountedStream}
 use Rattle.rates.specs.declared.FlatRate.{FlatRate}
 
 abbrev on : ℕ → ℕ → ℕ → Date

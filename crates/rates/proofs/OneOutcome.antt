@@ -12,10 +12,11 @@ use Rattle.cash_amount.specs.declared.AmountAnswer.{AmountAnswer}
 use Rattle.cash_amount.proofs.OneOutcome.{same-amount-answer}
 use Rattle.cash_flow.specs.declared.CashFlow.{CashFlow}
 use Rattle.day_fraction.specs.Fractions.{whole}
-use Rattle.day_count_conv.specs.Conventions.{inBits}
+use Rattle.day_count_conv.specs.Conventions.{inBits, none}
 use Rattle.day_count_conv.specs.declared.DayCountConv.{DayCountConv}
 use Rattle.day_count_conv.proofs.OneOutcome.{fraction-numbered}
-use Rattle.rates.specs.Rates.{factorOutcome, isRate, factorOf, none, fractionTo, discountFactor, isOneCurrency, flowValue, discountedFlow, flowAdded, streamFrom, discountedStream, FactorPromise, FlowPromise, StreamPromise}
+use Rattle.rate_factors.specs.Factors.{isRate, factorOf}
+use Rattle.rates.specs.Rates.{factorOutcome, fractionTo, discountFactor, isOneCurrency, flowValue, discountedFlow, flowAdded, streamFrom, discountedStream, FactorPromise, FlowPromise, StreamPromise}
 use Rattle.rates.specs.declared.FlatRate.{FlatRate}
 use Rattle.rates.specs.declared.FactorAnswer.{FactorAnswer}
 use Rattle.rates.specs.declared.FactorAnswer.the-variants as factor-answer

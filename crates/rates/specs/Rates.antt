@@ -3,7 +3,7 @@ use mathlib.Core.Path.{_≡_}
 use mathlib.Core.Bool.{Bool}
 use mathlib.Core.List.{List, [], _∷_}
 use lib.IntN.{pos}
-use lib.Ieee.{Float, binary64, add, mul, div, le}
+use lib.Ieee.{Float, binary64, add, mul}
 use lib.Ieee.Scale.{finite}
 use Rattle.paper.specs.Outcome.{Outcome, given, refused, unless, andThen, both}
 use Rattle.calendar.specs.declared.Date.{Date}
@@ -12,11 +12,9 @@ use Rattle.cash_amount.specs.declared.AmountAnswer.{AmountAnswer}
 use Rattle.cash_amount.specs.declared.Currency.{Currency}
 use Rattle.cash_flow.specs.declared.CashFlow.{CashFlow}
 use Rattle.day_fraction.specs.Fractions.{whole}
-use Rattle.day_count_conv.specs.Conventions.{yearFraction, inBits}
+use Rattle.day_count_conv.specs.Conventions.{yearFraction, inBits, none}
 use Rattle.day_count_conv.specs.declared.DayCountConv.{DayCountConv}
-use Rattle.day_count_conv.specs.declared.Extras.{Extras}
-use Rattle.day_count_conv.specs.declared.RollDate.the-variants as roll-date
-use Rattle.day_count_conv.specs.declared.RollPeriod.the-variants as roll-period
+use Rattle.rate_factors.specs.Factors.{isRate, factorOf}
 use Rattle.rates.specs.declared.FlatRate.{FlatRate}
 use Rattle.rates.specs.declared.FactorAnswer.{FactorAnswer}
 use Rattle.rates.specs.declared.FactorAnswer.the-variants as factor-answer
@@ -24,26 +22,12 @@ use Rattle.rates.specs.declared.FactorAnswer.the-variants as factor-answ
 abbrev zero : Float
 zero = whole (pos 0)
 
-abbrev one : Float
-one = whole (pos 1)
-
 -- the outcome that an answer is: the factor, or the refusal's number
 abbrev pub factorOutcome : FactorAnswer → Outcome Float
 factorOutcome (factor-answer.Factor x) = given x
 factorOutcome (factor-answer.Refused n) = refused n
 
--- the rate is finite, 0 to 1 (nothing else is at least 0 and at most 1)
-unfoldable pub isRate : Float → Bool
-isRate x = both (le zero x) (le x one)
-
--- 1 / (1 + rate x fraction)
-unfoldable pub factorOf : Float → Float → Float
-factorOf rate yf = div binary64 one (add binary64 one (mul binary64 rate yf))
-
 -- the fraction from today to the payment date; no roll date and no period are given, so ICMA is refused 10
-abbrev pub none : Extras
-none = record { roll = roll-date.Absent; period = roll-period.Absent }
-
 unfoldable pub fractionTo : DayCountConv → Date → Date → Outcome Float
 fractionTo rule today t = yearFraction inBits rule today t none
 

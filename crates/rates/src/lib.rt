@@ -1,9 +1,8 @@
 // Discounting at a flat rate with simple compounding: the factor and one cash flow.
 ghost use mathlib.Core.Path.{_≡_};
-ghost use lib.Ieee.Scale.{finite};
 ghost use Rattle.day_count_conv.specs.Conventions.{fractionOutcome};
 ghost use Rattle.cash_amount.specs.Amounts.{amountOutcome};
-ghost use Rattle.rates.specs.Rates.{isRate, factorOf, fractionTo, isOneCurrency, flowValue, flowAdded, FactorPromise, FlowPromise};
+ghost use Rattle.rates.specs.Rates.{fractionTo, isOneCurrency, flowValue, flowAdded, FactorPromise, FlowPromise};
 use calendar::Date;
 use cash_amount::AmountAnswer;
 use cash_amount::Currency;
@@ -13,6 +12,9 @@ use day_count_conv::Extras;
 use day_count_conv::RollDate;
 use day_count_conv::RollPeriod;
 use day_count_conv::YearFraction;
+use rate_factors::is_finite;
+use rate_factors::is_rate;
+use rate_factors::simple_factor;
 
 // finql's `FlatRate` with `Compounding::Simple`, the one compounding that is carried over.
 pub struct FlatRate {
@@ -24,28 +26,6 @@ pub struct FlatRate {
 pub enum FactorAnswer {
     Factor(f64),
     Refused(u32),
-}
-
-// Inner: a listed stream asks it as well. An infinity less itself is no number, and only numbers equal themselves.
-pub fn is_finite(x: f64) -> bool
-    ensures { λ r. ⌜ r ≡ finite x ⌝ }
-{
-    let d = x - x;
-    d == d
-}
-
-// Inner: a stream judges its rate once. Finite, 0 to 1; -0.0 is 0.
-pub fn is_rate(x: f64) -> bool
-    ensures { λ r. ⌜ r ≡ isRate x ⌝ }
-{
-    if 0.0 <= x { x <= 1.0 } else { false }
-}
-
-// Inner: a listed stream counts its days itself. finql's operations in its order.
-pub fn simple_factor(rate: f64, yf: f64) -> f64
-    ensures { λ r. ⌜ r ≡ factorOf rate yf ⌝ }
-{
-    1.0 / (1.0 + rate * yf)
 }
 
 // The year fraction, with no roll date and no period.

@@ -20,13 +20,13 @@ use Rattle.day_adjust.specs.declared.DayAdjust.the-variants as rule
 use Rattle.day_adjust.proofs.Adjusting.{none-stays, adjusted-gives}
 use Rattle.time_period.specs.Steps.{absent, stepped}
 use Rattle.day_fraction.specs.Fractions.{Span}
-use Rattle.day_count_conv.specs.Conventions.{inBits, byRule, yearFraction}
+use Rattle.day_count_conv.specs.Conventions.{inBits, rolledFrom, byRule, yearFraction}
 use Rattle.day_count_conv.proofs.Judged.{span-fraction, roll-dated}
 use Rattle.cash_flow.specs.declared.CashFlow.{CashFlow}
 use Rattle.bond.specs.Notes.{isPosition, noteChecks, firstCouponEnd, nominalOf, couponAmount}
 use Rattle.bond.specs.declared.Note.{Note}
 use Rattle.bond.proofs.Ends.{Accepted, passed, first-end-later, next-end-later}
-use Rattle.rollout.specs.Rollout.{paid, rolledFrom, couponFlow, followed, flowsAfter, noteFlows, cashFlows}
+use Rattle.rollout.specs.Rollout.{paid, couponFlow, followed, flowsAfter, noteFlows, cashFlows}
 use Rattle.rollout.specs.Turns.{Judged, stepOf, flowsDue, Dated, most, Turned}
 use Rattle.rollout.specs.declared.Due.{Due}
 use Rattle.rollout.specs.declared.Due.the-variants.{First, After, Nothing}
@@ -63,17 +63,17 @@ module _ (n : Note) (table : List ℕ) (t : Date) (x : Float) (next : Due) where
 -- ---- a coupon
 
 module _ (n : Note) (position : Float) (table : List ℕ) (start end roll : Date) (s : Span start end) (d : isDate roll ≡ true) where
-  flow-of : (o : Outcome Float) → byRule inBits (n .«day_count_convention») start end (rolledFrom n roll) ≡ o → couponFlow n position table start end roll ≡ andThen o (λ fraction. paid n table end (couponAmount position n fraction))
+  flow-of : (o : Outcome Float) → byRule inBits (n .«day_count_convention») start end (rolledFrom roll (n .period)) ≡ o → couponFlow n position table start end roll ≡ andThen o (λ fraction. paid n table end (couponAmount position n fraction))
   unfolding couponFlow
   flow-of o e =
       ap (λ (y : Outcome Float). andThen y (λ fraction. paid n table end (couponAmount position n fraction)))
-      (span-fraction inBits (n .«day_count_convention») start end (rolledFrom n roll) s (roll-dated (n .«day_count_convention») roll d) ∙ e)
+      (span-fraction inBits (n .«day_count_convention») start end (rolledFrom roll (n .period)) s (roll-dated (n .«day_count_convention») roll d) ∙ e)
 
-  pub coupon-pays : (fraction x : Float) (r : Step) → byRule inBits (n .«day_count_convention») start end (rolledFrom n roll) ≡ given fraction → x ≡ couponAmount position n fraction → r ≡ stepOf (paid n table end x) (After end) → r ≡ stepOf (couponFlow n position table start end roll) (After end)
+  pub coupon-pays : (fraction x : Float) (r : Step) → byRule inBits (n .«day_count_convention») start end (rolledFrom roll (n .period)) ≡ given fraction → x ≡ couponAmount position n fraction → r ≡ stepOf (paid n table end x) (After end) → r ≡ stepOf (couponFlow n position table start end roll) (After end)
   coupon-pays fraction x r e a q =
       q ∙ ap (λ (y : Float). stepOf (paid n table end y) (After end)) a ∙ ap (λ (o : Outcome CashFlow). stepOf o (After end)) (sym (flow-of (given fraction) e))
 
-  pub coupon-stops : (k : ℕ) → byRule inBits (n .«day_count_convention») start end (rolledFrom n roll) ≡ refused k → Stop k ≡ stepOf (couponFlow n position table start end roll) (After end)
+  pub coupon-stops : (k : ℕ) → byRule inBits (n .«day_count_convention») start end (rolledFrom roll (n .period)) ≡ refused k → Stop k ≡ stepOf (couponFlow n position table start end roll) (After end)
   coupon-stops k e = ap (λ (o : Outcome CashFlow). stepOf o (After end)) (sym (flow-of (refused k) e))
 
 -- ---- behind a coupon
@@ -193,7 +193,7 @@ module _ (n : Note) (position : Float) (table : List ℕ) (a : Accepted n) where
   coupon-of : (start end roll : Date) (f : CashFlow) → isDate end ≡ true → couponFlow n position table start end roll ≡ given f → OfNote n f
   unfolding couponFlow
   coupon-of start end roll f d e =
-      let g = then-given (yearFraction inBits (n .«day_count_convention») start end (rolledFrom n roll)) (λ fraction. paid n table end (couponAmount position n fraction)) f e in
+      let g = then-given (yearFraction inBits (n .«day_count_convention») start end (rolledFrom roll (n .period))) (λ fraction. paid n table end (couponAmount position n fraction)) f e in
       paid-of end (couponAmount position n (g .0)) f d (g .2)
 
   after-of : (k : ℕ) (t : Date) (l : List CashFlow) → isDate t ≡ true → flowsAfter k n position table t ≡ given l → Every (OfNote n) l × (length l ≤ k)

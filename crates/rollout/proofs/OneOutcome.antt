@@ -18,7 +18,7 @@ use Rattle.day_adjust.specs.Adjustment.{adjusted}
 use Rattle.day_adjust.proofs.OneOutcome.{adjusted-numbered}
 use Rattle.time_period.specs.Steps.{absent, stepped}
 use Rattle.time_period.proofs.OneOutcome.{step-numbered}
-use Rattle.day_count_conv.specs.Conventions.{inBits, yearFraction}
+use Rattle.day_count_conv.specs.Conventions.{inBits, rolledFrom, yearFraction}
 use Rattle.day_count_conv.proofs.OneOutcome.{fraction-numbered}
 use Rattle.cash_flow.specs.declared.CashFlow.{CashFlow}
 use Rattle.cash_flow.specs.declared.FlowsAnswer.{FlowsAnswer}
@@ -26,7 +26,7 @@ use Rattle.cash_flow.proofs.OneOutcome.{same-flows-answer}
 use Rattle.bond.specs.Notes.{isPosition, noteChecks, firstCouponEnd, nominalOf, couponAmount}
 use Rattle.bond.specs.declared.Note.{Note}
 use Rattle.bond.proofs.OneOutcome.{checks-numbered, first-end-numbered}
-use Rattle.rollout.specs.Rollout.{paid, rolledFrom, couponFlow, followed, flowsAfter, noteFlows, cashFlows, fitted, RolloutPromise}
+use Rattle.rollout.specs.Rollout.{paid, couponFlow, followed, flowsAfter, noteFlows, cashFlows, fitted, RolloutPromise}
 
 -- the answer, the days and the amounts
 pub one-rollout : (n : Note) (position : Float) (table days : List ℕ) (amounts : List Float) (r s : FlowsAnswer) (d e : List ℕ) (a b : List Float) → RolloutPromise n position table days amounts r d a → RolloutPromise n position table days amounts s e b → (r ≡ s) × (d ≡ e) × (a ≡ b)
@@ -41,8 +41,8 @@ module _ (n : Note) (position : Float) (table : List ℕ) where
   coupon-numbered : (start end roll : Date) → Numbered (couponFlow n position table start end roll)
   unfolding couponFlow
   coupon-numbered start end roll =
-      then-numbered (yearFraction inBits (n .«day_count_convention») start end (rolledFrom n roll)) (λ fraction. paid n table end (couponAmount position n fraction))
-      (fraction-numbered inBits start end (n .«day_count_convention») (rolledFrom n roll))
+      then-numbered (yearFraction inBits (n .«day_count_convention») start end (rolledFrom roll (n .period))) (λ fraction. paid n table end (couponAmount position n fraction))
+      (fraction-numbered inBits start end (n .«day_count_convention») (rolledFrom roll (n .period)))
       (λ fraction. paid-numbered end (couponAmount position n fraction))
 
   followed-numbered : (flow : Outcome CashFlow) (others : Outcome (List CashFlow)) → Numbered flow → Numbered others → Numbered (followed flow others)

@@ -13,10 +13,7 @@ use Rattle.calendar.specs.declared.Date.{Date}
 use Rattle.holidays.specs.Table.{isTable}
 use Rattle.day_adjust.specs.Adjustment.{adjusted}
 use Rattle.time_period.specs.Steps.{absent, stepped}
-use Rattle.day_count_conv.specs.Conventions.{inBits, yearFraction}
-use Rattle.day_count_conv.specs.declared.Extras.{Extras}
-use Rattle.day_count_conv.specs.declared.RollDate.the-variants as roll-date
-use Rattle.day_count_conv.specs.declared.RollPeriod.the-variants as roll-period
+use Rattle.day_count_conv.specs.Conventions.{inBits, rolledFrom, yearFraction}
 use Rattle.cash_flow.specs.Flows.{flowsOutcome}
 use Rattle.cash_flow.specs.declared.CashFlow.{CashFlow}
 use Rattle.cash_flow.specs.declared.FlowsAnswer.{FlowsAnswer}
@@ -27,14 +24,10 @@ use Rattle.bond.specs.declared.Note.{Note}
 unfoldable pub paid : Note → List ℕ → Date → Float → Outcome CashFlow
 paid n table t x = andThen (adjusted (n .«business_day_rule») t table) (λ u. given (record { date = u; currency = n .currency; amount = x }))
 
--- fractions use unadjusted dates, the note's period and a roll date
-abbrev pub rolledFrom : Note → Date → Extras
-rolledFrom n roll = record { roll = roll-date.Date roll; period = roll-period.Period (n .period) }
-
--- a coupon from start to end: its fraction, then its payment date
+-- a coupon from start to end: its fraction, of unadjusted dates, the note's period and a roll date; then its payment date
 unfoldable pub couponFlow : Note → Float → List ℕ → Date → Date → Date → Outcome CashFlow
 couponFlow n position table start end roll =
-    andThen (yearFraction inBits (n .«day_count_convention») start end (rolledFrom n roll))
+    andThen (yearFraction inBits (n .«day_count_convention») start end (rolledFrom roll (n .period)))
     (λ fraction. paid n table end (couponAmount position n fraction))
 
 -- a flow and those behind it: the first refusal ends it

@@ -14,10 +14,10 @@ use Rattle.holidays.specs.Table.{isTable}
 use Rattle.cash_flow.specs.declared.CashFlow.{CashFlow}
 use Rattle.time_period.specs.Steps.{absent, stepped}
 use Rattle.day_fraction.specs.Fractions.{Span}
-use Rattle.day_count_conv.specs.Conventions.{inBits, byRule}
+use Rattle.day_count_conv.specs.Conventions.{inBits, rolledFrom, byRule}
 use Rattle.bond.specs.Notes.{isPosition, noteChecks, firstCouponEnd, nominalOf, couponAmount}
 use Rattle.bond.specs.declared.Note.{Note}
-use Rattle.rollout.specs.Rollout.{rolledFrom, followed, flowsAfter, noteFlows, dayOf, amountOf}
+use Rattle.rollout.specs.Rollout.{followed, flowsAfter, noteFlows, dayOf, amountOf}
 use Rattle.rollout.specs.declared.Due.{Due}
 use Rattle.rollout.specs.declared.Due.the-variants.{First, After, Nothing}
 use Rattle.rollout.specs.declared.Coming.{Coming}
@@ -74,31 +74,39 @@ couponTo coupon (given end) = coupon end
 couponTo coupon (refused k) = coming.Stop k
 
 abbrev pub comingFirst : Note → Coming
-comingFirst n = couponTo (λ end. coming.Coupon (n .«issue_date») end end) (firstCouponEnd n)
+comingFirst n = couponTo (coming.First (n .«issue_date»)) (firstCouponEnd n)
 
 abbrev pub comingAfter : Note → Date → Coming
-comingAfter n t = pick (isBefore t (n .maturity)) (couponTo (λ next. coming.Coupon t next t) (stepped (n .period) absent t)) coming.Nominal
+comingAfter n t = pick (isBefore t (n .maturity)) (couponTo (coming.Later t) (stepped (n .period) absent t)) coming.Nominal
 
 abbrev pub comingOf : Note → Due → Coming
 comingOf n First = comingFirst n
 comingOf n (After t) = comingAfter n t
 comingOf n Nothing = coming.End
 
--- a coupon's dates are in order, and so is its roll date
-abbrev pub Spanned : Coming → Type 0
-Spanned (coming.Coupon start end roll) = Span start end × (isDate roll ≡ true)
-Spanned coming.Nominal = 0 < 1
-Spanned (coming.Stop k) = 0 < 1
-Spanned coming.End = 0 < 1
+-- a coupon's dates are in order, and a later one is a period long
+abbrev pub Spanned : Note → Coming → Type 0
+Spanned n (coming.First start end) = Span start end
+Spanned n (coming.Later start end) = Span start end × (stepped (n .period) absent start ≡ given end)
+Spanned n coming.Nominal = 0 < 1
+Spanned n (coming.Stop k) = 0 < 1
+Spanned n coming.End = 0 < 1
+
+-- a coupon's fraction by the note's rule, rolled from a date
+abbrev pub couponFraction : Note → Date → Date → Date → Outcome Float
+couponFraction n start end roll = byRule inBits (n .«day_count_convention») start end (rolledFrom roll (n .period))
 
 -- what is owed for it
 abbrev pub owes : Date → Due → Outcome Float → Owed
 owes t next (given x) = owed.Pay t x next
 owes t next (refused k) = owed.Stop k
 
+abbrev pub owedFor : Note → Float → Date → Outcome Float → Owed
+owedFor n position end o = owes end (After end) (andThen o (λ fraction. given (couponAmount position n fraction)))
+
 abbrev pub owedOf : Note → Float → Coming → Owed
-owedOf n position (coming.Coupon start end roll) =
-    owes end (After end) (andThen (byRule inBits (n .«day_count_convention») start end (rolledFrom n roll)) (λ fraction. given (couponAmount position n fraction)))
+owedOf n position (coming.First start end) = owedFor n position end (couponFraction n start end end)
+owedOf n position (coming.Later start end) = owedFor n position end (couponFraction n start end start)
 owedOf n position coming.Nominal = owed.Pay (n .maturity) (nominalOf position n) Nothing
 owedOf n position (coming.Stop k) = owed.Stop k
 owedOf n position coming.End = owed.End

@@ -7,9 +7,13 @@ ghost use lib.ListN.{length, take, drop, set};
 ghost use Rattle.room.specs.Room.{counted};
 ghost use Rattle.calendar.specs.Dates.{isDate, dayNumber};
 ghost use Rattle.holidays.specs.Table.{ascending};
+ghost use Rattle.paper.specs.Outcome.{given};
+ghost use Rattle.time_period.specs.Steps.{absent, stepped};
+ghost use Rattle.day_fraction.specs.Fractions.{Span};
+ghost use Rattle.day_count_conv.specs.Conventions.{fractionOutcome};
 ghost use Rattle.cash_flow.specs.Flows.{flowsOutcome};
 ghost use Rattle.rollout.specs.Rollout.{paid, noteFlows, RolloutPromise};
-ghost use Rattle.rollout.specs.Turns.{Judged, stepOf, Dated, Turned, Kept, comingFirst, comingAfter, comingOf, Spanned, owedOf};
+ghost use Rattle.rollout.specs.Turns.{Judged, stepOf, Dated, Turned, Kept, comingFirst, comingAfter, comingOf, couponFraction, Spanned, owedFor, owedOf};
 use bond::Note;
 use bond::NoteAnswer;
 use calendar::Date;
@@ -38,9 +42,10 @@ pub enum Step {
     End,
 }
 
-// What comes next: a coupon from a start to an end that rolls from a date, the nominal, a refusal, or nothing more.
+// What comes next: the first coupon from its start to its end, a later one, the nominal, a refusal, or nothing more.
 pub enum Coming {
-    Coupon(Date, Date, Date),
+    First(Date, Date),
+    Later(Date, Date),
     Nominal,
     Stop(u32),
     End,
@@ -98,18 +103,17 @@ fn pay(note: Note, table: &[u32], near: usize, t: Date, amount: f64, next: Due) 
     }
 }
 
-// The first coupon rolls from its end.
 fn coming_first(note: Note) -> Coming
     ensures { λ r. ⌜ r ≡ comingFirst note ⌝ }
 {
     let issue = note.issue_date;
     match bond::first_coupon_end(note) {
-        DateAnswer::Date(end) => Coming::Coupon(issue, end, end),
+        DateAnswer::Date(end) => Coming::First(issue, end),
         DateAnswer::Refused(k) => Coming::Stop(k),
     }
 }
 
-// A later coupon, a period on, rolls from its start; the nominal comes behind the last.
+// A later coupon is one period long; the nominal comes behind the last.
 fn coming_after(note: Note, end: Date) -> Coming
     requires { ⌜ isDate end ≡ true ⌝ }
     ensures { λ r. ⌜ r ≡ comingAfter note end ⌝ }
@@ -119,7 +123,7 @@ fn coming_after(note: Note, end: Date) -> Coming
     }
     let period = note.period;
     match time_period::step(period, end) {
-        DateAnswer::Date(next) => Coming::Coupon(end, next, end),
+        DateAnswer::Date(next) => Coming::Later(end, next),
         DateAnswer::Refused(k) => Coming::Stop(k),
     }
 }
@@ -135,27 +139,55 @@ fn what_comes(note: Note, due: Due) -> Coming
     }
 }
 
-// What comes, as an amount. Each of these has one caller, so that the compiler keeps them out of memory.
+// The first coupon rolls from its end.
+fn first_fraction(note: Note, start: Date, end: Date) -> YearFraction
+    requires { ⌜ Span start end ⌝ }
+    ensures { λ r. ⌜ fractionOutcome r ≡ couponFraction note start end end ⌝ }
+{
+    let rule = note.day_count_convention;
+    let period = note.period;
+    let extras = Extras {
+        roll: RollDate::Date(end),
+        period: RollPeriod::Period(period),
+    };
+    day_count_conv::fraction_judged(rule, start, end, extras)
+}
+
+// A later one rolls from its start, and is one period long.
+fn later_fraction(note: Note, start: Date, end: Date) -> YearFraction
+    requires { ⌜ (Span start end) × (stepped (note .period) absent start ≡ given end) ⌝ }
+    ensures { λ r. ⌜ fractionOutcome r ≡ couponFraction note start end start ⌝ }
+{
+    let rule = note.day_count_convention;
+    let period = note.period;
+    day_count_conv::fraction_of_period(rule, period, start, end)
+}
+
+// A coupon's amount on its end, and what follows it.
+fn owed_for(note: Note, position: f64, end: Date, found: YearFraction) -> Owed
+    ensures { λ r. ⌜ r ≡ owedFor note position end (fractionOutcome found) ⌝ }
+{
+    match found {
+        YearFraction::Fraction(fraction) => {
+            let amount = bond::coupon_amount(position, note, fraction);
+            let next = Due::After(end);
+            Owed::Pay(end, amount, next)
+        }
+        YearFraction::Refused(k) => Owed::Stop(k),
+    }
+}
+
+// What comes, as an amount. All of these but `owed_for` have one caller, so that the compiler keeps them out of memory.
 fn what_is_owed(note: Note, position: f64, c: Coming) -> Owed
-    requires { ⌜ Spanned c ⌝ }
+    requires { ⌜ Spanned note c ⌝ }
     ensures { λ r. ⌜ r ≡ owedOf note position c ⌝ }
 {
     match c {
-        Coming::Coupon(start, end, roll) => {
-            let rule = note.day_count_convention;
-            let period = note.period;
-            let extras = Extras {
-                roll: RollDate::Date(roll),
-                period: RollPeriod::Period(period),
-            };
-            match day_count_conv::fraction_judged(rule, start, end, extras) {
-                YearFraction::Fraction(fraction) => {
-                    let amount = bond::coupon_amount(position, note, fraction);
-                    let next = Due::After(end);
-                    Owed::Pay(end, amount, next)
-                }
-                YearFraction::Refused(k) => Owed::Stop(k),
-            }
+        Coming::First(start, end) => {
+            owed_for(note, position, end, first_fraction(note, start, end))
+        }
+        Coming::Later(start, end) => {
+            owed_for(note, position, end, later_fraction(note, start, end))
         }
         Coming::Nominal => {
             let amount = bond::nominal(position, note);

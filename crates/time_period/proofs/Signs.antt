@@ -56,12 +56,19 @@ seven-fits : (z : ℤ) → SFits w32 z → SFits w64 (pos 7 *ℤ z)
 seven-fits (pos n) f = record { sfits = omega (arith, f .sfits) }
 seven-fits (negsuc n) f = rw (negated-is (7 * suc n) (omega arith)) (record { sfits = omega (arith, f .sfits) })
 
+seven-short : (z : ℤ) → SFits w32 z → mag (pos 7 *ℤ z) < 17179869184
+seven-short (pos n) f = omega (arith, f .sfits)
+seven-short (negsuc n) f = rw (negated-is (7 * suc n) (omega arith)) (omega (arith, f .sfits))
+
 module _ (z : ℤ) (f : SFits w32 z) where
   weeks-is : pos 7 *ℤ toZ w64 (ofZ w64 (toZ w32 (ofZ w32 z))) ≡ pos 7 *ℤ z
   weeks-is = ap (λ (n : ℤ). pos 7 *ℤ n) (widened z f)
 
   pub weeks-fit : SFits w64 (pos 7 *ℤ toZ w64 (ofZ w64 (toZ w32 (ofZ w32 z))))
   weeks-fit = subst (SFits w64) (sym weeks-is) (seven-fits z f)
+
+  pub weeks-short : mag (toZ w64 (ofZ w64 (pos 7 *ℤ toZ w64 (ofZ w64 (toZ w32 (ofZ w32 z)))))) < 17179869184
+  weeks-short = subst (λ (n : ℤ). mag n < 17179869184) (sym (toZ-ofZ weeks-fit ∙ weeks-is)) (seven-short z f)
 
   pub weeks-read : toZ w64 (ofZ w64 (pos 7 *ℤ toZ w64 (ofZ w64 (toZ w32 (ofZ w32 z))))) ≡ pos 7 *ℤ z
   weeks-read = toZ-ofZ weeks-fit ∙ weeks-is

@@ -1,4 +1,4 @@
--- `amount_rounding::round2digits` meets its contract: what is outside the limits is refused, and the product is no NaN.
+-- `amount_rounding::round2digits` meets its contract: what is outside the limits is refused, and the product is below 2 ^ 52.
 -- Assumes nothing.
 use mathlib.Core.Path.{_≡_, sym, _∙_}
 use mathlib.Core.Bool.{true}
@@ -6,7 +6,7 @@ use mir.Facts.{toZ-ofZ}
 use borrow.Author.Needs.{needs}
 use borrow.Author.Tests.{not-true, not-false}
 use Rattle.amount_rounding.specs.RoundedAmounts.{isRoundable, powerOfTen}
-use Rattle.amount_rounding.proofs.Meaning.{product-not-nan}
+use Rattle.amount_rounding.proofs.Meaning.{rounding-means, product-finite, finite-not-nan}
 use Rattle.amount_rounding.proofs.Answers.{answer-refused, answer-given, roundable-width}
 use Rattle.amount_rounding.proofs.round2digits.Statement.{statement}
 use Rattle.amount_rounding.proofs.round2digits.Tie as tie
@@ -28,7 +28,11 @@ power : (c : tie.After-ten-to) → c .ten-to .result ≡ powerOfTen (c .before .
 power c = rw (toZ-ofZ (c .before .before .before .fits .digits)) at (c .ten-to .ensures)
 
 round-requires : tie.Need-round-requires
-round-requires c κs = rw (power c) (product-not-nan (c .before .before .before .args .x) (c .before .before .before .args .digits) (roundable (c .before)))
+round-requires c κs =
+    let s = c .before .before .before in
+    let r = roundable (c .before) in
+    let f = product-finite (s .args .x) (s .args .digits) r in
+    rw (power c) (finite-not-nan _ f, (f, rounding-means (s .args .x) (s .args .digits) r .small))
 
 returns-2 : tie.Need-returns-2
 returns-2 c = answer-given _ (c .before .before .before .before .args .digits) _ _ (roundable (c .before .before)) (power (c .before)) (c .round .ensures)

@@ -1,4 +1,4 @@
--- `amount_rounding::ten_to` meets its contract: each arm of the `match` has its number of digits, and `_` has 4.
+-- `amount_rounding::ten_to` meets its contract: each arm of the `match` has its number of digits, and there is no other.
 -- Assumes nothing.
 use Rattle.amount_rounding.proofs.Limits.{power-is, width-last}
 use lib.Ieee.{ofBits, ofInt}
@@ -23,7 +23,10 @@ returns-4 c = power-is (c .before .args .digits) 3 (c .before .pre) (c .match .k
 
 returns-5 : tie.Need-returns-5
 unfolding ofBits ofInt
-returns-5 c = power-is (c .before .args .digits) 4 (c .before .pre) (width-last (c .before .args .digits) (c .before .pre) (c .match .rest .0 .0 .0 .1) (c .match .rest .0 .0 .1) (c .match .rest .0 .1) (c .match .rest .1))
+returns-5 c = power-is (c .before .args .digits) 4 (c .before .pre) (c .match .keys5)
+
+returns-6 : tie.Need-returns-6
+returns-6 c = absurd (c .match .rest .1 (width-last (c .before .args .digits) (c .before .pre) (c .match .rest .0 .0 .0 .0 .1) (c .match .rest .0 .0 .0 .1) (c .match .rest .0 .0 .1) (c .match .rest .0 .1)))
 
 pub ten-to-spec : {M : Type 1} → statement M
-ten-to-spec = tie.close (tie.spec returns returns-2 returns-3 returns-4 returns-5)
+ten-to-spec = tie.close (tie.spec returns returns-2 returns-3 returns-4 returns-5 returns-6)

@@ -1,46 +1,50 @@
--- `calendar::date_on` meets its contract: the year, and the day within it.
+-- `calendar::date_on` meets its contract: the year that begins in March, and the month and the day in it.
 -- Assumes nothing.
-use Prim.Native.Nat.{ℕ, _-_}
-use mathlib.Core.Path.{_∙_, ap, ap₂}
+use Prim.Native.Nat.{suc, _<_}
 use native.Mathlib.Omega.{arith}
 use borrow.Author.Needs.{needs}
-use Rattle.calendar.specs.Dates.{inYear, theDate}
-use Rattle.gregorian.specs.Gregorian.{beforeYear}
-use Rattle.calendar.proofs.Dates.{day-in-year}
+use Rattle.gregorian.proofs.Months.{year-most}
+use Rattle.calendar.proofs.March.{year-to, in-first-year, in-next-year}
 use Rattle.calendar.proofs.date_on.Statement.{statement}
 use Rattle.calendar.proofs.date_on.Tie as tie
 
-year-of-requires : tie.Need-year-of-requires
-year-of-requires c κs = search needs
+few : (c : tie.After-march-day) → c .march-day .result .day < 366
+few c = omega (arith, c .march-day .ensures .1, year-most (suc (c .march-day .result .year)))
 
-days-before-year-requires : tie.Need-days-before-year-requires
-days-before-year-requires c κs =
-    let s = c .before in
-    let h = day-in-year (s .args .n) (s .pre .0) (s .pre .1) in
-    rw (c .year-of .ensures) (h .from, h .to)
+march-day-requires : tie.Need-march-day-requires
+march-day-requires c κs = search needs
 
-sub-in-year : tie.Need-sub-in-year
-sub-in-year c =
-    let s = c .before .before in
-    let h = day-in-year (s .args .n) (s .pre .0) (s .pre .1) in
-    let e = c .days-before-year .ensures ∙ ap beforeYear (c .before .year-of .ensures) in
-    omega (arith, e, h .after)
+mul-both : tie.Need-mul-both
+mul-both c = omega (arith, few (c .before))
 
-in-year-requires : tie.Need-in-year-requires
-in-year-requires c κs =
-    let s = c .before .before in
-    let h = day-in-year (s .args .n) (s .pre .0) (s .pre .1) in
-    let e = c .days-before-year .ensures ∙ ap beforeYear (c .before .year-of .ensures) in
-    rw (e, c .before .year-of .ensures) (h .from, omega (arith, h .after), h .rest)
+add-both : tie.Need-add-both
+add-both c = omega (arith, few (c .before))
+
+add-day : tie.Need-add-day
+add-day c = search needs
+
+add-t9 : tie.Need-add-t9
+add-t9 c =
+    let a = c .before .before .before in
+    let e = a .march-day .ensures in
+    omega (arith, year-to (a .before .args .n) _ _ (e .0) (e .1) (a .before .pre .0) (a .before .pre .1))
+
+sub-t10 : tie.Need-sub-t10
+sub-t10 c = search needs
 
 returns : tie.Need-returns
-unfolding theDate
 returns c =
-    let n = c .before .before .before .args .n in
-    let y = c .before .before .year-of .ensures in
-    c .in-year .ensures ∙ ap₂ inYear y (ap (λ (x : ℕ). n - x) (c .before .days-before-year .ensures ∙ ap beforeYear y))
+    let a = c .before .before .before in
+    let e = a .march-day .ensures in
+    in-next-year (a .before .args .n) _ _ (e .0) (e .1) (a .before .pre .0) (a .before .pre .1) (c .before .if1 .taken)
+
+returns-2 : tie.Need-returns-2
+returns-2 c =
+    let a = c .before .before in
+    let e = a .march-day .ensures in
+    in-first-year (a .before .args .n) _ _ (e .0) (e .1) (a .before .pre .0) (a .before .pre .1) (c .if1 .left)
 
 pub date-on-spec : {M : Type 1} → statement M
 date-on-spec =
     tie.close
-    (tie.spec year-of-requires days-before-year-requires sub-in-year in-year-requires returns)
+    (tie.spec march-day-requires mul-both add-both add-day add-t9 sub-t10 returns returns-2)

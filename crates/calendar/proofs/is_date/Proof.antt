@@ -3,7 +3,7 @@
 use mathlib.Core.Path.{sym, ap}
 use native.Mathlib.Omega.{arith}
 use lib.Dec.{leb}
-use borrow.Author.Tests.{le-leb, lt-leb}
+use borrow.Author.Tests.{le-leb}
 use Rattle.gregorian.proofs.Months.{at-least}
 use Rattle.calendar.specs.Dates.{isDate}
 use Rattle.calendar.proofs.Dates.{no-date, date-is}
@@ -14,12 +14,12 @@ use Rattle.calendar.proofs.is_date.Tie as tie
 returns : tie.Need-returns
 returns c =
     let t = c .before .before .args .t in
-    no-date t (λ h. omega (arith, h .year-from))
+    no-date t (λ h. omega (arith, h .month-from))
 
 returns-2 : tie.Need-returns-2
 returns-2 c =
     let t = c .before .before .before .before .args .t in
-    no-date t (λ h. omega (arith, h .year-to))
+    no-date t (λ h. omega (arith, h .month-to))
 
 returns-3 : tie.Need-returns-3
 returns-3 c =
@@ -29,12 +29,12 @@ returns-3 c =
 returns-4 : tie.Need-returns-4
 returns-4 c =
     let t = c .before .before .before .before .before .before .before .before .args .t in
-    no-date t (λ h. omega (arith, h .month-from))
+    no-date t (λ h. omega (arith, h .year-from))
 
 returns-5 : tie.Need-returns-5
 returns-5 c =
     let t = c .before .before .before .before .before .before .before .before .before .before .args .t in
-    no-date t (λ h. omega (arith, h .month-to))
+    no-date t (λ h. omega (arith, h .year-to))
 
 returns-6 : tie.Need-returns-6
 returns-6 c =

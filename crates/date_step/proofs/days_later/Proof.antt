@@ -1,67 +1,88 @@
 -- `date_step::days_later` meets its contract: the serial day is moved, and its date taken.
 -- Assumes nothing.
-use Prim.Native.Nat.{ℕ}
+use Prim.Native.Nat.{ℕ, suc, _-_, _≤_}
 use mathlib.Core.Path.{_≡_, sym, _∙_, ap, ap₂}
 use native.Mathlib.Omega.{arith}
+use native.Mathlib.Numerals.{add-one}
 use lib.IntN.{ℤ, pos, _+ℤ_}
 use mir.Facts.{toZ-ofZ}
 use borrow.Author.Needs.{needs}
 use Rattle.paper.specs.Outcome.{Outcome, given, andThen}
-use Rattle.calendar.specs.Answers.{dateOf}
-use Rattle.date_step.specs.Steps.{placeOutcome, landing, daysLater}
-use Rattle.calendar.specs.Dates.{dayNumber}
+use Rattle.date_step.specs.Steps.{placeOutcome, landing}
+use Rattle.calendar.specs.Dates.{dayNumber, theDate}
 use Rattle.calendar.specs.declared.Date.{Date}
-use Rattle.calendar.proofs.Dates.{date-yes, number-to}
+use Rattle.calendar.proofs.Dates.{IsDate, date-yes, number-from, number-to}
+use Rattle.date_step.proofs.Landing.{landed-to}
+use Rattle.date_step.proofs.Steps.{days-from-zero}
 use Rattle.date_step.proofs.days_later.Statement.{statement}
 use Rattle.date_step.proofs.days_later.Tie as tie
 
+dated : (c : tie.Start) → IsDate (c .args .t)
+dated c = date-yes (c .args .t) (c .pre .0)
+
 -- the number reached
-moved : (c : tie.After-land) → placeOutcome (c .land .result) ≡ landing 3652059 (pos (dayNumber (c .before .before .args .t)) +ℤ c .before .before .args .n)
+moved : (c : tie.After-land) → placeOutcome (c .land .result) ≡ landing 3652058 (pos (dayNumber (c .before .before .args .t) - 1) +ℤ c .before .before .args .n)
 moved c =
     let s = c .before .before in
-    c .land .ensures ∙ ap₂ (λ (k : ℕ) (z : ℤ). landing 3652059 (pos k +ℤ z)) (c .before .number-of .ensures) (toZ-ofZ (s .fits .n))
+    c .land .ensures ∙ ap₂ (λ (k : ℕ) (z : ℤ). landing 3652058 (pos (k - 1) +ℤ z)) (c .before .number-of .ensures) (toZ-ofZ (s .fits .n))
 
--- the date of a serial day
+-- the date of a day counted from 0
 abbrev on : ℕ → Outcome Date
-on k = dateOf (record { 0 = k })
+on i = given (theDate (suc i))
 
 number-of-requires : tie.Need-number-of-requires
-number-of-requires c κs = search needs
+number-of-requires c κs = c .pre .0
+
+sub-land : tie.Need-sub-land
+sub-land c =
+    let s = c .before in
+    omega (arith, c .number-of .ensures, number-from (s .args .t) (dated s))
 
 land-requires : tie.Need-land-requires
 land-requires c κs =
     let s = c .before in
-    (omega (arith, c .number-of .ensures, number-to (s .args .t) (date-yes (s .args .t) (s .pre))), omega arith)
+    (omega (arith, c .number-of .ensures, number-to (s .args .t) (dated s)), omega arith, rw (toZ-ofZ (s .fits .n)) (s .pre .1))
 
 enum-known-i : tie.Need-enum-known-i
 enum-known-i c = search needs
 
-date-of-requires : tie.Need-date-of-requires
-date-of-requires c κs = search needs
+reached : (c : tie.After-i) → c .i .given .0 .0 ≤ 3652058
+reached c = landed-to 3652058 _ (c .i .given .0 .0) (ap placeOutcome (sym (c .i .given .1)) ∙ moved (c .before .before))
+
+add-date-on : tie.Need-add-date-on
+add-date-on c = omega (arith, reached (c .before))
+
+date-on-requires : tie.Need-date-on-requires
+date-on-requires c κs = (omega arith, omega (arith, reached (c .before)))
 
 enum-known-k : tie.Need-enum-known-k
 enum-known-k c = search needs
 
 returns : tie.Need-returns
-unfolding daysLater
 returns c =
     let p = c .before .before in
-    c .date-of .ensures ∙ ap (λ (o : Outcome ℕ). andThen o on) (ap placeOutcome (sym (p .i .given .1)) ∙ moved (p .before .before))
+    let s = p .before .before .before .before in
+    ap {B = Outcome Date} given (c .date-on .ensures ∙ ap theDate (add-one (p .i .given .0 .0)))
+    ∙ ap (λ (o : Outcome ℕ). andThen o on) (ap placeOutcome (sym (p .i .given .1)) ∙ moved (p .before .before))
+    ∙ days-from-zero (s .args .t) (s .args .n) (number-from (s .args .t) (dated s))
 
 returns-2 : tie.Need-returns-2
-unfolding daysLater
 returns-2 c =
     let p = c .before in
+    let s = p .before .before .before .before in
     ap (λ (o : Outcome ℕ). andThen o on) (ap placeOutcome (sym (p .k .given .1)) ∙ moved (p .before .before))
+    ∙ days-from-zero (s .args .t) (s .args .n) (number-from (s .args .t) (dated s))
 
 pub days-later-spec : {M : Type 1} → statement M
 days-later-spec =
     tie.close
     (tie.spec
     number-of-requires
+    sub-land
     land-requires
     enum-known-i
-    date-of-requires
+    add-date-on
+    date-on-requires
     enum-known-k
     returns
     returns-2)

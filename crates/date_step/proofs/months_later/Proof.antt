@@ -9,7 +9,7 @@ use Rattle.paper.specs.Outcome.{Outcome, given, andThen}
 use Rattle.date_step.specs.Steps.{placeOutcome, landing, monthsLater}
 use Rattle.calendar.specs.Dates.{monthIndex, monthDate}
 use Rattle.calendar.specs.declared.Date.{Date}
-use Rattle.date_step.proofs.Landing.{landed-to, wide-fits, widened}
+use Rattle.date_step.proofs.Landing.{landed-to, wide-fits, wide-short, widened}
 use Rattle.calendar.proofs.Dates.{IsDate, date-yes}
 use Rattle.date_step.proofs.months_later.Statement.{statement}
 use Rattle.date_step.proofs.months_later.Tie as tie
@@ -42,7 +42,7 @@ cast-land c = wide-fits _ (c .before .before .fits .n)
 land-requires : tie.Need-land-requires
 land-requires c κs =
     let h = dated (c .before .before) in
-    (omega (arith, h .year-to, h .month-to), omega arith)
+    (omega (arith, h .year-to, h .month-to), omega arith, wide-short _ (c .before .before .fits .n))
 
 enum-known-i : tie.Need-enum-known-i
 enum-known-i c = search needs

@@ -8,7 +8,7 @@ use borrow.Author.Needs.{needs}
 use Rattle.paper.specs.Outcome.{Outcome, given, andThen}
 use Rattle.date_step.specs.Steps.{placeOutcome, landing, existingDate, yearsLater}
 use Rattle.calendar.specs.declared.Date.{Date}
-use Rattle.date_step.proofs.Landing.{wide-fits, widened}
+use Rattle.date_step.proofs.Landing.{wide-fits, wide-short, widened}
 use Rattle.calendar.proofs.Dates.{date-yes}
 use Rattle.date_step.proofs.years_later.Statement.{statement}
 use Rattle.date_step.proofs.years_later.Tie as tie
@@ -29,7 +29,7 @@ cast-land c = wide-fits _ (c .fits .n)
 land-requires : tie.Need-land-requires
 land-requires c κs =
     let h = date-yes (c .args .t) (c .pre) in
-    (omega (arith, h .year-to), omega arith)
+    (omega (arith, h .year-to), omega arith, wide-short _ (c .fits .n))
 
 enum-known-year : tie.Need-enum-known-year
 enum-known-year c = search needs

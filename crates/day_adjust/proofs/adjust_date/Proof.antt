@@ -5,18 +5,20 @@ use mathlib.Core.Bool.{true}
 use borrow.Author.Tests.{not-true, not-false}
 use borrow.Author.Needs.{needs}
 use Rattle.calendar.specs.Dates.{isDate}
-use Rattle.holidays.specs.Table.{ascending}
+use Rattle.holidays.specs.Table.{isTable}
+use Rattle.holidays.specs.Search.{Splits}
 use Rattle.day_adjust.specs.Adjustment.{adjustDate}
 use Rattle.holidays.proofs.Table.{table-ascends}
+use Rattle.day_adjust.proofs.Adjusting.{judged-at, open-stays, shut-moves}
 use Rattle.day_adjust.proofs.adjust_date.Statement.{statement}
 use Rattle.day_adjust.proofs.adjust_date.Tie as tie
 
--- past its test the date is one, and past its own the table ascends
+-- past its test the date is one, and past its own the table is one and has the day's place
 dated : (c : tie.Else1) → isDate (c .before .before .before .args .t) ≡ true
 dated c = sym (c .before .is-date .ensures) ∙ not-false _ (c .if1 .left)
 
-sorted : (c : tie.Else2) → ascending (c .before .before .before .before .before .args .table .now) ≡ true
-sorted c = table-ascends _ (sym (c .before .is-table .ensures) ∙ not-false _ (c .if2 .left))
+placed : (c : tie.Else2) → (isTable (c .before .before .before .before .before .before .args .table .now) ≡ true) × Splits (c .before .before .before .before .before .before .args .table .now) (c .before .before .number-of .result) (c .before .place-in .result)
+placed c = c .before .place-in .ensures .taken (c .if2 .left)
 
 is-date-requires : tie.Need-is-date-requires
 is-date-requires c κs = search needs
@@ -25,25 +27,46 @@ returns : tie.Need-returns
 unfolding adjustDate
 returns c = rw (sym (c .before .is-date .ensures) ∙ not-true _ (c .if1 .taken))
 
-is-table-requires : tie.Need-is-table-requires
-is-table-requires c κs = search needs
+number-of-requires : tie.Need-number-of-requires
+number-of-requires c κs = dated c
+
+place-in-requires : tie.Need-place-in-requires
+place-in-requires c κs = search needs
 
 returns-2 : tie.Need-returns-2
 unfolding adjustDate
-returns-2 c = rw (sym (c .before .before .before .is-date .ensures) ∙ not-false _ (c .before .before .if1 .left), sym (c .before .is-table .ensures) ∙ not-true _ (c .if2 .taken))
+returns-2 c = rw (dated (c .before .before .before), c .before .place-in .ensures .refused (c .if2 .taken))
 
-number-of-requires : tie.Need-number-of-requires
-number-of-requires c κs = dated (c .before .before)
-
-first-from-requires : tie.Need-first-from-requires
-first-from-requires c κs = sorted (c .before)
-
-adjust-at-requires : tie.Need-adjust-at-requires
-adjust-at-requires c κs = (dated (c .before .before .before .before), c .before .number-of .ensures, sorted (c .before .before), c .first-from .ensures)
+business-at-requires : tie.Need-business-at-requires
+business-at-requires c κs =
+    let n = c .before .before in
+    let s = n .before .before .before .before in
+    let p = placed c in
+    (judged-at (s .args .t) (n .number-of .result) (s .args .table .now) (n .number-of .ensures) (dated (n .before)) (table-ascends _ (p .0)), p .1)
 
 returns-3 : tie.Need-returns-3
 unfolding adjustDate
-returns-3 c = rw (sym (c .before .before .before .before .before .before .is-date .ensures) ∙ not-false _ (c .before .before .before .before .before .if1 .left), sym (c .before .before .before .before .is-table .ensures) ∙ not-false _ (c .before .before .before .if2 .left)) (c .adjust-at .ensures)
+returns-3 c =
+    let e = c .before .before in
+    let n = e .before .before in
+    let s = n .before .before .before .before in
+    rw (dated (n .before), placed e .0) (open-stays (s .args .t) (n .number-of .result) (s .args .table .now) (n .number-of .ensures) (s .args .rule) (sym (c .before .business-at .ensures) ∙ c .if3 .taken))
+
+moved-date-requires : tie.Need-moved-date-requires
+moved-date-requires c κs =
+    let e = c .before .before in
+    let n = e .before .before in
+    let p = placed e in
+    (dated (n .before), n .number-of .ensures, table-ascends _ (p .0), p .1)
+
+returns-4 : tie.Need-returns-4
+unfolding adjustDate
+returns-4 c =
+    let e = c .before .before .before in
+    let n = e .before .before in
+    let s = n .before .before .before .before in
+    rw (dated (n .before), placed e .0)
+    (c .moved-date .ensures ∙ shut-moves (s .args .t) (n .number-of .result) (s .args .table .now) (n .number-of .ensures) (s .args .rule) (sym (c .before .before .business-at .ensures) ∙ c .before .if3 .left))
 
 pub adjust-date-spec : {M : Type 1} → statement M
 adjust-date-spec =
@@ -51,9 +74,10 @@ adjust-date-spec =
     (tie.spec
     is-date-requires
     returns
-    is-table-requires
-    returns-2
     number-of-requires
-    first-from-requires
-    adjust-at-requires
-    returns-3)
+    place-in-requires
+    returns-2
+    business-at-requires
+    returns-3
+    moved-date-requires
+    returns-4)

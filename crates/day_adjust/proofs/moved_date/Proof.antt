@@ -1,11 +1,18 @@
 -- `day_adjust::moved_date` meets its contract: each rule has its case.
 -- Assumes nothing.
-use mathlib.Core.Path.{sym, _∙_, ap}
+use mathlib.Core.Path.{_≡_, refl, sym, _∙_, ap}
 use borrow.Author.Needs.{needs}
-use Rattle.day_adjust.specs.Adjustment.{movedDate}
+use Rattle.paper.specs.Outcome.{Outcome, given, refused, andThen}
+use Rattle.calendar.specs.declared.Date.{Date}
+use Rattle.day_adjust.specs.Adjustment.{nextDate, modifiedDate, movedDate}
 use Rattle.day_adjust.specs.declared.DayAdjust.{DayAdjust}
 use Rattle.day_adjust.proofs.moved_date.Statement.{statement}
 use Rattle.day_adjust.proofs.moved_date.Tie as tie
+
+-- what is given stays as it is
+then-all : (o : Outcome Date) → andThen o given ≡ o
+then-all (given u) = refl
+then-all (refused k) = refl
 
 enum-told : tie.Need-enum-told
 enum-told c = search needs
@@ -13,8 +20,8 @@ enum-told c = search needs
 enum-told-2 : tie.Need-enum-told-2
 enum-told-2 c = search needs
 
-next-date-requires : tie.Need-next-date-requires
-next-date-requires c κs = search needs
+ahead-date-requires : tie.Need-ahead-date-requires
+ahead-date-requires c κs = search needs
 
 enum-told-3 : tie.Need-enum-told-3
 enum-told-3 c = search needs
@@ -25,8 +32,8 @@ prev-date-requires c κs = search needs
 enum-told-4 : tie.Need-enum-told-4
 enum-told-4 c = search needs
 
-modified-date-requires : tie.Need-modified-date-requires
-modified-date-requires c κs = search needs
+ahead-date-requires-2 : tie.Need-ahead-date-requires-2
+ahead-date-requires-2 c κs = search needs
 
 returns : tie.Need-returns
 returns c =
@@ -36,7 +43,7 @@ returns c =
 returns-2 : tie.Need-returns-2
 returns-2 c =
     let s = c .before .before .before .before in
-    c .next-date .ensures ∙ ap (λ (r : DayAdjust). movedDate r (s .args .t) (s .args .n) (s .args .table .now)) (sym (c .before .enum-told2 .given .1))
+    c .ahead-date .ensures ∙ then-all (nextDate (s .args .table .now) (s .args .n)) ∙ ap (λ (r : DayAdjust). movedDate r (s .args .t) (s .args .n) (s .args .table .now)) (sym (c .before .enum-told2 .given .1))
 
 returns-3 : tie.Need-returns-3
 returns-3 c =
@@ -44,9 +51,10 @@ returns-3 c =
     c .prev-date .ensures ∙ ap (λ (r : DayAdjust). movedDate r (s .args .t) (s .args .n) (s .args .table .now)) (sym (c .before .enum-told3 .given .1))
 
 returns-4 : tie.Need-returns-4
+unfolding modifiedDate
 returns-4 c =
     let s = c .before .before .before .before in
-    c .modified-date .ensures ∙ ap (λ (r : DayAdjust). movedDate r (s .args .t) (s .args .n) (s .args .table .now)) (sym (c .before .enum-told4 .given .1))
+    c .ahead-date2 .ensures ∙ ap (λ (r : DayAdjust). movedDate r (s .args .t) (s .args .n) (s .args .table .now)) (sym (c .before .enum-told4 .given .1))
 
 pub moved-date-spec : {M : Type 1} → statement M
 moved-date-spec =
@@ -54,11 +62,11 @@ moved-date-spec =
     (tie.spec
     enum-told
     enum-told-2
-    next-date-requires
+    ahead-date-requires
     enum-told-3
     prev-date-requires
     enum-told-4
-    modified-date-requires
+    ahead-date-requires-2
     returns
     returns-2
     returns-3

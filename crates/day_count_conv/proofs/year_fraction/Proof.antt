@@ -1,19 +1,13 @@
 -- `day_count_conv::year_fraction` meets its contract: the checks in their order, and then the rule; how far off it is follows from its bits.
 -- Assumes nothing.
-use Prim.Native.Nat.{ℕ, _-_}
-use mathlib.Core.Path.{_≡_, sym, _∙_, ap₂}
+use mathlib.Core.Path.{_≡_, sym, _∙_}
 use mathlib.Core.Bool.{true}
-use native.Mathlib.Omega.{arith}
 use borrow.Author.Tests.{not-true, not-false}
 use borrow.Author.Needs.{needs}
 use Rattle.calendar.specs.Dates.{isDate}
-use Rattle.calendar.proofs.Order.{days-before}
-use Rattle.calendar.proofs.Dates.{date-yes}
 use Rattle.day_count_conv.specs.Conventions.{yearFraction, rollDated, inBits}
-use lib.IntN.{pos}
 use Rattle.day_fraction.specs.Fractions.{Span}
-use Rattle.day_fraction.proofs.Differences.{diff-of, diff-pos}
-use Rattle.day_count_conv.proofs.Judged.{span-fraction}
+use Rattle.day_count_conv.proofs.Judged.{spans, span-fraction}
 use Rattle.day_count_conv.proofs.Bounds.{promised}
 use Rattle.day_count_conv.proofs.year_fraction.Statement.{statement}
 use Rattle.day_count_conv.proofs.year_fraction.Tie as tie
@@ -59,35 +53,28 @@ module _ (c : tie.Else3) where
   rolls : rollDated (begun .args .rule) (begun .args .x .roll) ≡ true
   rolls = sym (c .before .roll-dated .ensures) ∙ not-false _ (c .if3 .left)
 
-number-of-requires : tie.Need-number-of-requires
-number-of-requires c κs = starts c
-
-number-of-requires-2 : tie.Need-number-of-requires-2
-number-of-requires-2 c κs = ends (c .before)
+is-before-requires : tie.Need-is-before-requires
+is-before-requires c κs = search needs
 
 returns-4 : tie.Need-returns-4
 unfolding yearFraction
 returns-4 c =
-    let e = c .before .before .before in
+    let e = c .before .before in
     let s = begun e in
-    promised (s .args .rule) (s .args .start) (s .args .end) (s .args .x) _ (rw (starts e, ends e, rolls e, days-before (s .args .end) (s .args .start) (date-yes _ (ends e)) (date-yes _ (starts e)) (omega (arith, c .before .before .number-of .ensures, c .before .number-of2 .ensures, c .if4 .taken))))
+    promised (s .args .rule) (s .args .start) (s .args .end) (s .args .x) _ (rw (starts e, ends e, rolls e, sym (c .before .is-before .ensures) ∙ c .if4 .taken))
 
 -- the two dates are in order
-span : (c : tie.Else4) → Span (begun (c .before .before .before) .args .start) (begun (c .before .before .before) .args .end)
-span c =
-    let e = c .before .before .before in
-    record { first = starts e; last = ends e; order = omega (arith, c .before .before .number-of .ensures, c .before .number-of2 .ensures) }
+span : (c : tie.Else4) → Span (begun (c .before .before) .args .start) (begun (c .before .before) .args .end)
+span c = let e = c .before .before in spans _ _ (starts e) (ends e) (sym (c .before .is-before .ensures) ∙ c .if4 .left)
 
-by-rule-requires : tie.Need-by-rule-requires
-by-rule-requires c κs =
-    let e = c .before .before .before in
-    (span c, rolls e, ap₂ (λ (a b : ℕ). pos (a - b)) (c .before .number-of2 .ensures) (c .before .before .number-of .ensures) ∙ sym (diff-pos (diff-of _ _) (span c .order)))
+fraction-judged-requires : tie.Need-fraction-judged-requires
+fraction-judged-requires c κs = (span c, rolls (c .before .before))
 
 returns-5 : tie.Need-returns-5
 returns-5 c =
-    let e = c .before .before .before .before in
+    let e = c .before .before .before in
     let s = begun e in
-    promised (s .args .rule) (s .args .start) (s .args .end) (s .args .x) _ (c .by-rule .ensures ∙ sym (span-fraction inBits (s .args .rule) (s .args .start) (s .args .end) (s .args .x) (span (c .before)) (rolls e)))
+    promised (s .args .rule) (s .args .start) (s .args .end) (s .args .x) _ (c .fraction-judged .ensures ∙ sym (span-fraction inBits (s .args .rule) (s .args .start) (s .args .end) (s .args .x) (span (c .before)) (rolls e)))
 
 pub year-fraction-spec : {M : Type 1} → statement M
 year-fraction-spec =
@@ -99,8 +86,7 @@ year-fraction-spec =
     returns-2
     roll-dated-requires
     returns-3
-    number-of-requires
-    number-of-requires-2
+    is-before-requires
     returns-4
-    by-rule-requires
+    fraction-judged-requires
     returns-5)

@@ -11,11 +11,8 @@ convention-of-requires c κs = search needs
 enum-known-c : tie.Need-enum-known-c
 enum-known-c c = search needs
 
-no-extras-requires : tie.Need-no-extras-requires
-no-extras-requires c κs = search needs
-
-year-fraction-requires : tie.Need-year-fraction-requires
-year-fraction-requires c κs = search needs
+fraction-between-requires : tie.Need-fraction-between-requires
+fraction-between-requires c κs = search needs
 
 hand-fraction-requires : tie.Need-hand-fraction-requires
 hand-fraction-requires c κs = search needs
@@ -26,8 +23,8 @@ enum-known-n c = search needs
 returns : tie.Need-returns
 returns c =
     let a = c .before .before in
-    let p = a .before .before .before .before .before in
-    rw (← p .convention-of .ensures, a .before .before .before .c .given .1, ← (rw (a .before .no-extras .ensures) at (a .year-fraction .ensures .0))) (c .hand-fraction .ensures)
+    let p = a .before .before .before .before in
+    rw (← p .convention-of .ensures, a .before .before .c .given .1, ← a .fraction-between .ensures .0) (c .hand-fraction .ensures)
 
 returns-2 : tie.Need-returns-2
 returns-2 c =
@@ -40,8 +37,7 @@ notes-year-fraction-spec =
     (tie.spec
     convention-of-requires
     enum-known-c
-    no-extras-requires
-    year-fraction-requires
+    fraction-between-requires
     hand-fraction-requires
     enum-known-n
     returns

@@ -1,7 +1,6 @@
 -- `holidays::first_near` meets its contract: before the place all is before the day, and the place goes on until it is not.
 -- Assumes nothing.
-use Prim.Native.Nat.{_-_, _<_}
-use mathlib.Core.Path.{sym, subst}
+use Prim.Native.Nat.{_-_}
 use lib.ListN.{length}
 use native.Mathlib.Omega.{arith}
 use borrow.Author.Needs.{needs}

@@ -2,7 +2,7 @@
 -- Assumes nothing.
 use mathlib.Core.Path.{sym, _∙_, ap}
 use Rattle.icma.specs.Walk.{icmaParts}
-use Rattle.icma.proofs.Laws.{one-period}
+use Rattle.icma.proofs.Laws.{one-period, led}
 use Rattle.calendar.proofs.Order.{same-yes}
 use borrow.Author.Needs.{needs}
 use Rattle.icma.proofs.icma_parts.Statement.{statement}
@@ -18,7 +18,7 @@ returns : tie.Need-returns
 returns c =
     let s = c .before .before .before .before in
     let e = same-yes _ _ (sym (c .before .before .before .is-same .ensures) ∙ c .before .before .if1 .taken) in
-    sym (ap (icmaParts (s .args .p) (s .args .start) (s .args .end)) e ∙ one-period (s .args .p) (s .args .start) (s .args .end) (s .pre .0) (s .pre .4) (c .before .leads .ensures (c .if2 .taken)))
+    sym (ap (icmaParts (s .args .p) (s .args .start) (s .args .end)) e ∙ one-period (s .args .p) (s .args .start) (s .args .end) (s .pre .0) (s .pre .4) (led _ (s .args .end) (sym (c .before .leads .ensures) ∙ c .if2 .taken)))
 
 walked-parts-requires : tie.Need-walked-parts-requires
 walked-parts-requires c κs = search needs

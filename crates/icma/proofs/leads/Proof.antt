@@ -1,10 +1,10 @@
 -- `icma::leads` meets its contract: the date reached is the one asked for.
 -- Assumes nothing.
-use mathlib.Core.Path.{sym, _∙_, ap, subst}
-use lib.Dec.{T}
-use Rattle.paper.specs.Outcome.{given}
+use mathlib.Core.Path.{sym, _∙_, ap}
+use Rattle.paper.specs.Outcome.{Outcome}
 use Rattle.calendar.specs.Answers.{dateOutcome}
-use Rattle.calendar.proofs.Order.{same-yes}
+use Rattle.calendar.specs.declared.Date.{Date}
+use Rattle.icma.specs.Leaps.{leadsTo}
 use borrow.Author.Needs.{needs}
 use Rattle.icma.proofs.leads.Statement.{statement}
 use Rattle.icma.proofs.leads.Tie as tie
@@ -22,12 +22,12 @@ enum-told : tie.Need-enum-told
 enum-told c = search needs
 
 returns : tie.Need-returns
-returns c h =
+returns c =
     let s = c .before .before .before .before in
-    sym (s .step .ensures) ∙ ap dateOutcome (c .before .before .u .given .1) ∙ ap given (same-yes _ _ (sym (c .is-same .ensures) ∙ h))
+    c .is-same .ensures ∙ ap (λ (o : Outcome Date). leadsTo o (s .before .args .to)) (ap dateOutcome (sym (c .before .before .u .given .1)) ∙ s .step .ensures)
 
 returns-2 : tie.Need-returns-2
-returns-2 c h = absurd (subst T (sym h) tt)
+returns-2 c = ap (λ (o : Outcome Date). leadsTo o (c .before .before .before .args .to)) (ap dateOutcome (sym (c .enum-told .given .1)) ∙ c .before .before .step .ensures)
 
 pub leads-spec : {M : Type 1} → statement M
 leads-spec =

@@ -4,6 +4,7 @@ use mathlib.Core.Path.{_≡_, sym, _∙_, ap}
 use native.Mathlib.Omega.{arith}
 use borrow.Author.Needs.{needs}
 use Rattle.paper.specs.Outcome.{Outcome, given, andThen}
+use Rattle.calendar.proofs.Dates.{date-yes, number-to}
 use Rattle.icma.specs.Walk.{walkOutcome, walkBack, toFirst, longParts}
 use Rattle.icma.specs.declared.Walked.{Walked}
 use Rattle.icma.proofs.Walking.{back-ends}
@@ -11,10 +12,11 @@ use Rattle.icma.proofs.long_parts.Statement.{statement}
 use Rattle.icma.proofs.long_parts.Tie as tie
 
 walked : (c : tie.After-b) → walkBack (c .before .before .before .args .q) (c .before .before .before .args .start) (c .before .before .before .args .base) ≡ given (c .b .given .0 .0)
+unfolding walkBack
 walked c = sym (c .before .before .walk-back .ensures) ∙ ap walkOutcome (c .b .given .1)
 
 walk-back-requires : tie.Need-walk-back-requires
-walk-back-requires c κs = search needs
+walk-back-requires c κs = (c .pre .2, omega (arith, number-to (c .args .base) (date-yes (c .args .base) (c .pre .2))), c .pre .4)
 
 enum-known-b : tie.Need-enum-known-b
 enum-known-b c = search needs
@@ -36,7 +38,7 @@ returns c =
     c .to-first .ensures ∙ sym (ap (λ (o : Outcome Walked). andThen o (toFirst (s .args .p) (s .args .q) (s .args .start) (s .args .end) (s .args .base))) (walked p))
 
 returns-2 : tie.Need-returns-2
-unfolding longParts
+unfolding longParts walkBack
 returns-2 c =
     let p = c .before in
     let s : tie.Start = c .before .before .before .before in

@@ -11,6 +11,7 @@ use Rattle.icma.proofs.to_end.Statement.{statement}
 use Rattle.icma.proofs.to_end.Tie as tie
 
 walked : (c : tie.After-e) → walkOn (c .before .before .before .args .p) (c .before .before .before .args .end) (c .before .before .before .args .base) ≡ given (c .e .given .0 .0)
+unfolding walkOn
 walked c = sym (c .before .before .walk-on .ensures) ∙ ap walkOutcome (c .e .given .1)
 
 walk-on-requires : tie.Need-walk-on-requires
@@ -36,7 +37,7 @@ returns c =
     c .to-last .ensures ∙ sym (ap (λ (o : Outcome Walked). andThen o (toLast (s .args .q) (s .args .end) (s .args .first) (s .args .count))) (walked p))
 
 returns-2 : tie.Need-returns-2
-unfolding toEnd
+unfolding toEnd walkOn
 returns-2 c =
     let p = c .before in
     let s : tie.Start = c .before .before .before .before in

@@ -1,28 +1,23 @@
 -- `icma::walk_back` meets its contract: each turn leaves the same walk to be made, and leads nearer to the calendar's end.
 -- Assumes nothing.
-use Prim.Native.Nat.{_+_, _≤_, _<_}
+use Prim.Native.Nat.{_+_, _≤_}
 use mathlib.Core.Path.{_≡_, refl, sym, _∙_, ap}
 use mathlib.Core.Bool.{true}
 use native.Mathlib.Omega.{arith}
 use borrow.Author.Needs.{needs}
 use Rattle.paper.specs.Outcome.{given}
 use Rattle.calendar.specs.Dates.{isDate, isBefore}
-use Rattle.calendar.specs.declared.Date.{Date}
-use Rattle.calendar.proofs.Dates.{date-yes, number-to}
-use Rattle.icma.specs.Walk.{walkOutcome, walk, from, turnBack, walkBack}
+use Rattle.icma.specs.Walk.{walkOutcome, walk, turnBack}
 use Rattle.icma.proofs.Walking.{behind, behind-is, turn-back-leads, walk-turn, walk-refused, walk-done}
+use Rattle.icma.proofs.Leaps.{near-start}
 use Rattle.icma.proofs.walk_back.Statement.{statement}
 use Rattle.icma.proofs.walk_back.Tie as tie
 
 abbrev Inv-loop : tie.InvT-loop
-Inv-loop q limit w₀ w = (isDate (w .at) ≡ true) × (w .count + behind (w .at) ≤ behind (w₀ .at)) × (walk 3652060 (λ u. isBefore limit u) (turnBack q limit) w ≡ walk 3652060 (λ u. isBefore limit u) (turnBack q limit) w₀)
+Inv-loop q limit w₀ w = (isDate (w .at) ≡ true) × (w .count + behind (w .at) ≤ w₀ .count + behind (w₀ .at)) × (walk 3652060 (λ u. isBefore limit u) (turnBack q limit) w ≡ walk 3652060 (λ u. isBefore limit u) (turnBack q limit) w₀)
 
 abbrev μ-loop : tie.MeasureT-loop
 μ-loop q limit w₀ w = behind (w .at)
-
--- any date is less than 3652060 days from either end
-near : (t : Date) → isDate t ≡ true → behind t < 3652060
-near t d = let i = date-yes t d in omega (arith, behind-is t, number-to t i)
 
 -- there was more to go, and the turn was made
 going : (c : tie.Then1 Inv-loop μ-loop) → isBefore (c .before .before .before .args .limit) (c .before .before .loop .w .at) ≡ true
@@ -40,9 +35,9 @@ is-before-requires c κs = search needs
 turn-back-requires : tie.Need-turn-back-requires Inv-loop μ-loop
 turn-back-requires c κs =
     let l = c .before .before .loop in
-    let k = near (l .w .at) (l .inv .0) in
-    let z = near (c .before .before .before .args .from) (c .before .before .before .pre .0) in
-    (l .inv .0, omega (arith, l .inv .1))
+    let k = near-start (l .w .at) (l .inv .0) in
+    let s : tie.Start Inv-loop μ-loop = c .before .before .before in
+    (l .inv .0, omega (arith, l .inv .1, s .pre .1, behind-is (s .args .from .at)))
 
 enum-known-v : tie.Need-enum-known-v Inv-loop μ-loop
 enum-known-v c = search needs
@@ -52,33 +47,31 @@ loop-less c =
     let p = c .before in
     let l = c .before .before .before .before .before .before .loop in
     let s : tie.Start Inv-loop μ-loop = c .before .before .before .before .before .before .before in
-    turn-back-leads (s .args .q) (s .args .limit) (s .pre .1) (l .w) (p .v .given .0 .0) (l .inv .0) (turned p) .nearer
+    turn-back-leads (s .args .q) (s .args .limit) (s .pre .2) (l .w) (p .v .given .0 .0) (l .inv .0) (turned p) .nearer
 
 loop-again : tie.Need-loop-again Inv-loop μ-loop
 loop-again c =
     let p = c .before in
     let l = c .before .before .before .before .before .before .loop in
     let s : tie.Start Inv-loop μ-loop = c .before .before .before .before .before .before .before in
-    let t = turn-back-leads (s .args .q) (s .args .limit) (s .pre .1) (l .w) (p .v .given .0 .0) (l .inv .0) (turned p) in
-    (t .dated, omega (arith, t .nearer, t .counted, l .inv .1), walk-turn (λ u. isBefore (s .args .limit) u) (turnBack (s .args .q) (s .args .limit)) behind (turn-back-leads (s .args .q) (s .args .limit) (s .pre .1)) 3652060 (l .w) (p .v .given .0 .0) (l .inv .0) (near (l .w .at) (l .inv .0)) (going (c .before .before .before .before)) (turned p) ∙ l .inv .2)
+    let t = turn-back-leads (s .args .q) (s .args .limit) (s .pre .2) (l .w) (p .v .given .0 .0) (l .inv .0) (turned p) in
+    (t .dated, omega (arith, t .nearer, t .counted, l .inv .1), walk-turn (λ u. isBefore (s .args .limit) u) (turnBack (s .args .q) (s .args .limit)) behind (turn-back-leads (s .args .q) (s .args .limit) (s .pre .2)) 3652060 (l .w) (p .v .given .0 .0) (l .inv .0) (near-start (l .w .at) (l .inv .0)) (going (c .before .before .before .before)) (turned p) ∙ l .inv .2)
 
 enum-known-k : tie.Need-enum-known-k Inv-loop μ-loop
 enum-known-k c = search needs
 
 returns : tie.Need-returns Inv-loop μ-loop
-unfolding walkBack
 returns c =
     let p = c .before in
     let l = c .before .before .before .before .before .before .loop in
     let s : tie.Start Inv-loop μ-loop = c .before .before .before .before .before .before .before in
-    walk-refused (λ u. isBefore (s .args .limit) u) (turnBack (s .args .q) (s .args .limit)) behind (turn-back-leads (s .args .q) (s .args .limit) (s .pre .1)) 3652060 (p .k .given .0 .0) (l .w) (near (l .w .at) (l .inv .0)) (going (c .before .before .before .before)) (sym (p .before .before .turn-back .ensures) ∙ ap walkOutcome (p .k .given .1)) ∙ l .inv .2
+    walk-refused (λ u. isBefore (s .args .limit) u) (turnBack (s .args .q) (s .args .limit)) behind (turn-back-leads (s .args .q) (s .args .limit) (s .pre .2)) 3652060 (p .k .given .0 .0) (l .w) (near-start (l .w .at) (l .inv .0)) (going (c .before .before .before .before)) (sym (p .before .before .turn-back .ensures) ∙ ap walkOutcome (p .k .given .1)) ∙ l .inv .2
 
 returns-2 : tie.Need-returns-2 Inv-loop μ-loop
-unfolding walkBack
 returns-2 c =
     let l = c .before .before .loop in
     let s : tie.Start Inv-loop μ-loop = c .before .before .before in
-    walk-done (λ u. isBefore (s .args .limit) u) (turnBack (s .args .q) (s .args .limit)) behind (turn-back-leads (s .args .q) (s .args .limit) (s .pre .1)) 3652060 (l .w) (near (l .w .at) (l .inv .0)) (sym (c .before .is-before .ensures) ∙ c .if1 .left) ∙ l .inv .2
+    walk-done (λ u. isBefore (s .args .limit) u) (turnBack (s .args .q) (s .args .limit)) behind (turn-back-leads (s .args .q) (s .args .limit) (s .pre .2)) 3652060 (l .w) (near-start (l .w .at) (l .inv .0)) (sym (c .before .is-before .ensures) ∙ c .if1 .left) ∙ l .inv .2
 
 pub walk-back-spec : {M : Type 1} → statement M
 walk-back-spec =

@@ -1,28 +1,24 @@
 -- `icma::walk_on` meets its contract: each turn leaves the same walk to be made, and leads nearer to the calendar's end.
 -- Assumes nothing.
-use Prim.Native.Nat.{_+_, _≤_, _<_}
+use Prim.Native.Nat.{_+_, _≤_}
 use mathlib.Core.Path.{_≡_, refl, sym, _∙_, ap}
 use mathlib.Core.Bool.{true}
 use native.Mathlib.Omega.{arith}
 use borrow.Author.Needs.{needs}
 use Rattle.paper.specs.Outcome.{given}
 use Rattle.calendar.specs.Dates.{isDate, isBefore}
-use Rattle.calendar.specs.declared.Date.{Date}
 use Rattle.calendar.proofs.Dates.{date-yes, number-to}
-use Rattle.icma.specs.Walk.{walkOutcome, walk, from, turnOn, walkOn}
+use Rattle.icma.specs.Walk.{walkOutcome, walk, turnOn}
 use Rattle.icma.proofs.Walking.{ahead, ahead-is, turn-on-leads, walk-turn, walk-refused, walk-done}
+use Rattle.icma.proofs.Leaps.{near-end}
 use Rattle.icma.proofs.walk_on.Statement.{statement}
 use Rattle.icma.proofs.walk_on.Tie as tie
 
 abbrev Inv-loop : tie.InvT-loop
-Inv-loop p limit w₀ w = (isDate (w .at) ≡ true) × (w .count + ahead (w .at) ≤ ahead (w₀ .at)) × (walk 3652060 (λ u. isBefore u limit) (turnOn p limit) w ≡ walk 3652060 (λ u. isBefore u limit) (turnOn p limit) w₀)
+Inv-loop p limit w₀ w = (isDate (w .at) ≡ true) × (w .count + ahead (w .at) ≤ w₀ .count + ahead (w₀ .at)) × (walk 3652060 (λ u. isBefore u limit) (turnOn p limit) w ≡ walk 3652060 (λ u. isBefore u limit) (turnOn p limit) w₀)
 
 abbrev μ-loop : tie.MeasureT-loop
 μ-loop p limit w₀ w = ahead (w .at)
-
--- any date is less than 3652060 days from either end
-near : (t : Date) → isDate t ≡ true → ahead t < 3652060
-near t d = let i = date-yes t d in omega (arith, ahead-is t, number-to t i)
 
 -- there was more to go, and the turn was made
 going : (c : tie.Then1 Inv-loop μ-loop) → isBefore (c .before .before .loop .w .at) (c .before .before .before .args .limit) ≡ true
@@ -40,9 +36,9 @@ is-before-requires c κs = search needs
 turn-on-requires : tie.Need-turn-on-requires Inv-loop μ-loop
 turn-on-requires c κs =
     let l = c .before .before .loop in
-    let k = near (l .w .at) (l .inv .0) in
-    let z = near (c .before .before .before .args .from) (c .before .before .before .pre .0) in
-    (l .inv .0, omega (arith, l .inv .1))
+    let k = near-end (l .w .at) (l .inv .0) in
+    let s : tie.Start Inv-loop μ-loop = c .before .before .before in
+    (l .inv .0, omega (arith, l .inv .1, s .pre .1, ahead-is (s .args .from .at), number-to (s .args .from .at) (date-yes (s .args .from .at) (s .pre .0))))
 
 enum-known-v : tie.Need-enum-known-v Inv-loop μ-loop
 enum-known-v c = search needs
@@ -52,33 +48,31 @@ loop-less c =
     let p = c .before in
     let l = c .before .before .before .before .before .before .loop in
     let s : tie.Start Inv-loop μ-loop = c .before .before .before .before .before .before .before in
-    turn-on-leads (s .args .p) (s .args .limit) (s .pre .1) (l .w) (p .v .given .0 .0) (l .inv .0) (turned p) .nearer
+    turn-on-leads (s .args .p) (s .args .limit) (s .pre .2) (l .w) (p .v .given .0 .0) (l .inv .0) (turned p) .nearer
 
 loop-again : tie.Need-loop-again Inv-loop μ-loop
 loop-again c =
     let p = c .before in
     let l = c .before .before .before .before .before .before .loop in
     let s : tie.Start Inv-loop μ-loop = c .before .before .before .before .before .before .before in
-    let t = turn-on-leads (s .args .p) (s .args .limit) (s .pre .1) (l .w) (p .v .given .0 .0) (l .inv .0) (turned p) in
-    (t .dated, omega (arith, t .nearer, t .counted, l .inv .1), walk-turn (λ u. isBefore u (s .args .limit)) (turnOn (s .args .p) (s .args .limit)) ahead (turn-on-leads (s .args .p) (s .args .limit) (s .pre .1)) 3652060 (l .w) (p .v .given .0 .0) (l .inv .0) (near (l .w .at) (l .inv .0)) (going (c .before .before .before .before)) (turned p) ∙ l .inv .2)
+    let t = turn-on-leads (s .args .p) (s .args .limit) (s .pre .2) (l .w) (p .v .given .0 .0) (l .inv .0) (turned p) in
+    (t .dated, omega (arith, t .nearer, t .counted, l .inv .1), walk-turn (λ u. isBefore u (s .args .limit)) (turnOn (s .args .p) (s .args .limit)) ahead (turn-on-leads (s .args .p) (s .args .limit) (s .pre .2)) 3652060 (l .w) (p .v .given .0 .0) (l .inv .0) (near-end (l .w .at) (l .inv .0)) (going (c .before .before .before .before)) (turned p) ∙ l .inv .2)
 
 enum-known-k : tie.Need-enum-known-k Inv-loop μ-loop
 enum-known-k c = search needs
 
 returns : tie.Need-returns Inv-loop μ-loop
-unfolding walkOn
 returns c =
     let p = c .before in
     let l = c .before .before .before .before .before .before .loop in
     let s : tie.Start Inv-loop μ-loop = c .before .before .before .before .before .before .before in
-    walk-refused (λ u. isBefore u (s .args .limit)) (turnOn (s .args .p) (s .args .limit)) ahead (turn-on-leads (s .args .p) (s .args .limit) (s .pre .1)) 3652060 (p .k .given .0 .0) (l .w) (near (l .w .at) (l .inv .0)) (going (c .before .before .before .before)) (sym (p .before .before .turn-on .ensures) ∙ ap walkOutcome (p .k .given .1)) ∙ l .inv .2
+    walk-refused (λ u. isBefore u (s .args .limit)) (turnOn (s .args .p) (s .args .limit)) ahead (turn-on-leads (s .args .p) (s .args .limit) (s .pre .2)) 3652060 (p .k .given .0 .0) (l .w) (near-end (l .w .at) (l .inv .0)) (going (c .before .before .before .before)) (sym (p .before .before .turn-on .ensures) ∙ ap walkOutcome (p .k .given .1)) ∙ l .inv .2
 
 returns-2 : tie.Need-returns-2 Inv-loop μ-loop
-unfolding walkOn
 returns-2 c =
     let l = c .before .before .loop in
     let s : tie.Start Inv-loop μ-loop = c .before .before .before in
-    walk-done (λ u. isBefore u (s .args .limit)) (turnOn (s .args .p) (s .args .limit)) ahead (turn-on-leads (s .args .p) (s .args .limit) (s .pre .1)) 3652060 (l .w) (near (l .w .at) (l .inv .0)) (sym (c .before .is-before .ensures) ∙ c .if1 .left) ∙ l .inv .2
+    walk-done (λ u. isBefore u (s .args .limit)) (turnOn (s .args .p) (s .args .limit)) ahead (turn-on-leads (s .args .p) (s .args .limit) (s .pre .2)) 3652060 (l .w) (near-end (l .w .at) (l .inv .0)) (sym (c .before .is-before .ensures) ∙ c .if1 .left) ∙ l .inv .2
 
 pub walk-on-spec : {M : Type 1} → statement M
 walk-on-spec =

@@ -38,7 +38,7 @@ sub-t10 : tie.Need-sub-t10
 sub-t10 c = minus-fits (c .before .args .p .num) (num-fits c) (not-the-least (c .before .args .p .num) (num-fits c) (c .before .pre .4))
 
 base-from-requires : tie.Need-base-from-requires
-base-from-requires c κs = (c .before .pre .3, c .before .pre .4, subst (λ (q : TimePeriod). ltZ (q .num) (pos 0) ≡ true) (sym (turned c)) (negated-below (c .before .args .p .num) (c .before .pre .4)))
+base-from-requires c κs = (c .before .pre .0, c .before .pre .1, c .before .pre .3, c .before .pre .4, subst (λ (q : TimePeriod). ltZ (q .num) (pos 0) ≡ true) (sym (turned c)) (negated-below (c .before .args .p .num) (c .before .pre .4)))
 
 enum-known-b : tie.Need-enum-known-b
 enum-known-b c = search needs

@@ -12,7 +12,8 @@ use Rattle.paper.specs.Outcome.{given}
 use Rattle.paper.proofs.Outcomes.{both-true}
 use Rattle.cash_flow.specs.Flows.{dateOn}
 use Rattle.day_fraction.specs.Fractions.{over}
-use Rattle.rates.specs.Rates.{factorOf, flowAdded}
+use Rattle.rate_factors.specs.Factors.{factorOf}
+use Rattle.rates.specs.Rates.{flowAdded}
 use Rattle.listed_rates.specs.Listed.{currencyAt, flowAt}
 use Rattle.listed_rates.proofs.Counted.{flow-counted}
 use Rattle.listed_rates.proofs.added_at.Statement.{statement}

@@ -26,13 +26,13 @@ returns c =
     let s : tie.Start = c .before .before in
     add-undated (s .args .p) absent (s .args .t) (undated c)
 
-step-requires : tie.Need-step-requires
-step-requires c κs = dated c
+step-once-requires : tie.Need-step-once-requires
+step-once-requires c κs = dated c
 
 returns-2 : tie.Need-returns-2
 returns-2 c =
     let s : tie.Start = c .before .before .before in
-    c .step .ensures ∙ no-table (s .args .p) (s .args .t) ∙ add-dated (s .args .p) absent (s .args .t) (dated (c .before))
+    c .step-once .ensures ∙ no-table (s .args .p) (s .args .t) ∙ add-dated (s .args .p) absent (s .args .t) (dated (c .before))
 
 pub add-to-spec : {M : Type 1} → statement M
-add-to-spec = tie.close (tie.spec is-date-requires returns step-requires returns-2)
+add-to-spec = tie.close (tie.spec is-date-requires returns step-once-requires returns-2)

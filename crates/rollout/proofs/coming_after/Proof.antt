@@ -6,7 +6,7 @@ use borrow.Author.Tests.{not-true, not-false}
 use Rattle.calendar.specs.Dates.{isBefore}
 use Rattle.calendar.specs.Answers.{dateOutcome}
 use Rattle.rollout.specs.Turns.{couponTo}
-use Rattle.rollout.specs.declared.Coming.the-variants.{Coupon}
+use Rattle.rollout.specs.declared.Coming.the-variants.{Later}
 use borrow.Author.Needs.{needs}
 use Rattle.rollout.proofs.coming_after.Statement.{statement}
 use Rattle.rollout.proofs.coming_after.Tie as tie
@@ -33,12 +33,12 @@ enum-known-k c = search needs
 returns-2 : tie.Need-returns-2
 returns-2 c =
     let p = c .before in
-    rw (early (p .before .before .before .before)) (ap (couponTo (λ next. Coupon _ next _)) (ap dateOutcome (sym (p .next .given .1)) ∙ p .before .before .step .ensures))
+    rw (early (p .before .before .before .before)) (ap (couponTo (Later _)) (ap dateOutcome (sym (p .next .given .1)) ∙ p .before .before .step .ensures))
 
 returns-3 : tie.Need-returns-3
 returns-3 c =
     let p = c .before in
-    rw (early (p .before .before .before .before)) (ap (couponTo (λ next. Coupon _ next _)) (ap dateOutcome (sym (p .k .given .1)) ∙ p .before .before .step .ensures))
+    rw (early (p .before .before .before .before)) (ap (couponTo (Later _)) (ap dateOutcome (sym (p .k .given .1)) ∙ p .before .before .step .ensures))
 
 pub coming-after-spec : {M : Type 1} → statement M
 coming-after-spec =

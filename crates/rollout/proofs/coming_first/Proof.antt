@@ -3,7 +3,7 @@
 use mathlib.Core.Path.{sym, _∙_, ap}
 use Rattle.calendar.specs.Answers.{dateOutcome}
 use Rattle.rollout.specs.Turns.{couponTo}
-use Rattle.rollout.specs.declared.Coming.the-variants.{Coupon}
+use Rattle.rollout.specs.declared.Coming.the-variants.{First}
 use borrow.Author.Needs.{needs}
 use Rattle.rollout.proofs.coming_first.Statement.{statement}
 use Rattle.rollout.proofs.coming_first.Tie as tie
@@ -18,10 +18,10 @@ enum-known-k : tie.Need-enum-known-k
 enum-known-k c = search needs
 
 returns : tie.Need-returns
-returns c = ap (couponTo (λ end. Coupon _ end end)) (ap dateOutcome (sym (c .before .end .given .1)) ∙ c .before .before .before .first-coupon-end .ensures)
+returns c = ap (couponTo (First _)) (ap dateOutcome (sym (c .before .end .given .1)) ∙ c .before .before .before .first-coupon-end .ensures)
 
 returns-2 : tie.Need-returns-2
-returns-2 c = ap (couponTo (λ end. Coupon _ end end)) (ap dateOutcome (sym (c .before .k .given .1)) ∙ c .before .before .before .first-coupon-end .ensures)
+returns-2 c = ap (couponTo (First _)) (ap dateOutcome (sym (c .before .k .given .1)) ∙ c .before .before .before .first-coupon-end .ensures)
 
 pub coming-first-spec : {M : Type 1} → statement M
 coming-first-spec =

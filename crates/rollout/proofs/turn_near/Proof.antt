@@ -29,7 +29,7 @@ what-comes-requires c κs = search needs
 what-is-owed-requires : tie.Need-what-is-owed-requires
 what-is-owed-requires c κs =
     let s : tie.Start = c .before .before in
-    subst Spanned (sym (c .what-comes .ensures)) (spanned (s .args .note) (accepted s) (s .args .due) (s .pre .1))
+    subst (Spanned (s .args .note)) (sym (c .what-comes .ensures)) (spanned (s .args .note) (accepted s) (s .args .due) (s .pre .1))
 
 enum-known-t : tie.Need-enum-known-t
 enum-known-t c = search needs

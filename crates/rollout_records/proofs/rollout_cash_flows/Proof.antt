@@ -30,7 +30,7 @@ use types.SemTy.{Body as Lies}
 use sound.WpLaws.{FmC, fmOf, WpFn-mono}
 use denote.RattleType.{RattleType, owns}
 use denote.Shadow.{pureI}
-use denote.Laws.{Is, shows, Tells}
+use denote.Laws.{Is, shows, Tells, Lawful, Makes}
 use denote.Memory.{cellAt, lone, partAt, partOf, shares, pointee}
 use denote.Memory as Mem
 use denote.Array.{Array, array-vals, array-tells, array-lawful, array-makes}
@@ -129,42 +129,18 @@ table-slice = sliceTy (tyRef (named 0) imm (pointee (u32 .written)))
 abbrev room-slice : Ty
 room-slice = sliceTy (tyRef (named 1) mut (pointee (T.the-row .written)))
 
--- the kept days and amounts: their arrays, and the references to them
-abbrev Days : RattleType
-Days = Array u32 256
+-- the kept days, or amounts: their array, and the references to it
+abbrev Kept : RattleType → RattleType
+Kept E = Array E 256
 
-abbrev Amounts : RattleType
-Amounts = Array f64 256
+abbrev kept-array : RattleType → Ty
+kept-array E = lone (Kept E .mir)
 
-abbrev days-array : Ty
-days-array = lone (Days .mir)
+abbrev kept-lent : RattleType → Ty
+kept-lent E = tyRef erased mut (pointee (Kept E .written))
 
-abbrev amounts-array : Ty
-amounts-array = lone (Amounts .mir)
-
-abbrev days-lent : Ty
-days-lent = tyRef erased mut (pointee (Days .written))
-
-abbrev amounts-lent : Ty
-amounts-lent = tyRef erased mut (pointee (Amounts .written))
-
-abbrev days-shared : Ty
-days-shared = tyRef erased imm (pointee (Days .written))
-
-abbrev amounts-shared : Ty
-amounts-shared = tyRef erased imm (pointee (Amounts .written))
-
-abbrev days-vals : List ℕ → List Val
-days-vals = array-vals (uint-vals w32)
-
-abbrev amounts-vals : List Float → List Val
-amounts-vals = array-vals (float-vals binary64)
-
-days-tells : Tells Days (Is Days) days-vals
-days-tells = array-tells u32 (uint-vals w32) (uint-tells w32) 256
-
-amounts-tells : Tells Amounts (Is Amounts) amounts-vals
-amounts-tells = array-tells f64 (float-vals binary64) (float-tells binary64) 256
+abbrev kept-shared : RattleType → Ty
+kept-shared E = tyRef erased imm (pointee (Kept E .written))
 
 -- the turn after its test
 abbrev body : Body
@@ -236,38 +212,23 @@ module _ {M : Type 1} (𝓤 : URA M) (H : Heap 𝓤) (A : Atoms 𝓤) (W : Given
       move ! (2 ∷ 1 ∷ []) $ fjoin ! $ move ! (2 ∷ 0 ∷ []) $ fjoin ! $ fjoin ! $ owned ! f64 (Is f64) (float-makes 𝓤 H A W binary64) position (vfloat binary64 position ∷ []) gp $ fjoin ! $ owned ! N.the-row (Is N.the-row) (LL.makes N.the-type N′.the-plain 𝓤 H A) note (notes note) gd $ fjoin ! $ frame ! $
       owned ! C.the-row (Is C.the-row) (EL.makes C.the-type C′.the-plain 𝓤 H A) r (v ∷ []) made $ done !
 
-  -- an array in its local, and its elements in memory
-  days-typed : (z : List ℕ) (u : Val) → Is Days z (u ∷ []) → Holds (hasTy days-array u) × WT u
-  days-typed z u is = array-lawful 𝓤 H A W u32 (uint-lawful 𝓤 H A W w32) 256 .typed z (u ∷ []) is .0
+  -- such an array in its local, and its elements in memory
+  module _ (E : RattleType) where
+    kept-typed : Lawful 𝓤 H A E → (z : List (E .Denot)) (u : Val) → Is (Kept E) z (u ∷ []) → Holds (hasTy (kept-array E) u) × WT u
+    kept-typed lawful z u is = array-lawful 𝓤 H A W E lawful 256 .typed z (u ∷ []) is .0
 
-  days-in : (z : List ℕ) (u : Val) → Is Days z (u ∷ []) → (l : ℕ) → ent 𝓤 (sem 𝓤 H A (fat fullShare days-array l 0 u)) (sem 𝓤 H A (partAt Days fullShare z l 0))
-  unfolding partOf
-  days-in z u is l =
-      qed W (‵ (fat fullShare days-array l 0 u) ∷ []) ∵ use1 W (‵ (cellAt fullShare (Days .mir) (u ∷ []) l 0)) (W .laws .at-raw fullShare days-array l 0 u) $
-      owned ! Days (Is Days) (array-makes 𝓤 H A W u32 (uint-makes 𝓤 H A W w32) 256) z (u ∷ []) is $ move ! (1 ∷ 0 ∷ []) $ fjoin ! $
-      fpack ! (List Val) (λ vs. fsep (cellAt fullShare (Days .mir) vs l 0) (Days .own z vs)) (u ∷ []) $ done !
+    kept-in : Makes 𝓤 H A E (Is E) → (z : List (E .Denot)) (u : Val) → Is (Kept E) z (u ∷ []) → (l : ℕ) → ent 𝓤 (sem 𝓤 H A (fat fullShare (kept-array E) l 0 u)) (sem 𝓤 H A (partAt (Kept E) fullShare z l 0))
+    unfolding partOf
+    kept-in makes z u is l =
+        qed W (‵ (fat fullShare (kept-array E) l 0 u) ∷ []) ∵ use1 W (‵ (cellAt fullShare (Kept E .mir) (u ∷ []) l 0)) (W .laws .at-raw fullShare (kept-array E) l 0 u) $
+        owned ! (Kept E) (Is (Kept E)) (array-makes 𝓤 H A W E makes 256) z (u ∷ []) is $ move ! (1 ∷ 0 ∷ []) $ fjoin ! $
+        fpack ! (List Val) (λ vs. fsep (cellAt fullShare (Kept E .mir) vs l 0) (Kept E .own z vs)) (u ∷ []) $ done !
 
-  days-out : (z : List ℕ) (l : ℕ) → ent 𝓤 (sem 𝓤 H A (partAt Days fullShare z l 0)) (sem 𝓤 H A (fat fullShare days-array l 0 (only (days-vals z))))
-  unfolding partOf
-  days-out z l =
-      qed W (‵ (partAt Days fullShare z l 0) ∷ []) ∵
-      fpick ! (λ vs. fsplit ! $ spelt ! Days (Is Days) (shows 𝓤 H A Days) days-vals days-tells fullShare z vs l 0 $ keep ! (0 ∷ []) $ by ! (W .laws .raw-at fullShare days-array l 0 (only (days-vals z))))
-
-  amounts-typed : (z : List Float) (u : Val) → Is Amounts z (u ∷ []) → Holds (hasTy amounts-array u) × WT u
-  amounts-typed z u is = array-lawful 𝓤 H A W f64 (float-lawful 𝓤 H A W binary64) 256 .typed z (u ∷ []) is .0
-
-  amounts-in : (z : List Float) (u : Val) → Is Amounts z (u ∷ []) → (l : ℕ) → ent 𝓤 (sem 𝓤 H A (fat fullShare amounts-array l 0 u)) (sem 𝓤 H A (partAt Amounts fullShare z l 0))
-  unfolding partOf
-  amounts-in z u is l =
-      qed W (‵ (fat fullShare amounts-array l 0 u) ∷ []) ∵ use1 W (‵ (cellAt fullShare (Amounts .mir) (u ∷ []) l 0)) (W .laws .at-raw fullShare amounts-array l 0 u) $
-      owned ! Amounts (Is Amounts) (array-makes 𝓤 H A W f64 (float-makes 𝓤 H A W binary64) 256) z (u ∷ []) is $ move ! (1 ∷ 0 ∷ []) $ fjoin ! $
-      fpack ! (List Val) (λ vs. fsep (cellAt fullShare (Amounts .mir) vs l 0) (Amounts .own z vs)) (u ∷ []) $ done !
-
-  amounts-out : (z : List Float) (l : ℕ) → ent 𝓤 (sem 𝓤 H A (partAt Amounts fullShare z l 0)) (sem 𝓤 H A (fat fullShare amounts-array l 0 (only (amounts-vals z))))
-  unfolding partOf
-  amounts-out z l =
-      qed W (‵ (partAt Amounts fullShare z l 0) ∷ []) ∵
-      fpick ! (λ vs. fsplit ! $ spelt ! Amounts (Is Amounts) (shows 𝓤 H A Amounts) amounts-vals amounts-tells fullShare z vs l 0 $ keep ! (0 ∷ []) $ by ! (W .laws .raw-at fullShare amounts-array l 0 (only (amounts-vals z))))
+    kept-out : (vals : E .Denot → List Val) → Tells E (Is E) vals → (z : List (E .Denot)) (l : ℕ) → ent 𝓤 (sem 𝓤 H A (partAt (Kept E) fullShare z l 0)) (sem 𝓤 H A (fat fullShare (kept-array E) l 0 (only (array-vals vals z))))
+    unfolding partOf
+    kept-out vals tells z l =
+        qed W (‵ (partAt (Kept E) fullShare z l 0) ∷ []) ∵
+        fpick ! (λ vs. fsplit ! $ spelt ! (Kept E) (Is (Kept E)) (shows 𝓤 H A (Kept E)) (array-vals vals) (array-tells E vals tells 256) fullShare z vs l 0 $ keep ! (0 ∷ []) $ by ! (W .laws .raw-at fullShare (kept-array E) l 0 (only (array-vals vals z))))
 
   -- the calls: what is passed, what is asked, and what is heard
   abbrev to-no-days : NoDays 𝓤 H A mem run .Ghost
@@ -295,7 +256,7 @@ module _ {M : Type 1} (𝓤 : URA M) (H : Heap 𝓤) (A : Atoms 𝓤) (W : Given
     to-answer-within = (((κ, (α, (β, tt))), (q, (fullShare, (fullShare, tt))), tt, answer-args zd za m₅ m₆ δ ε, answer-vals), tt)
 
     asked-answer-within : ent 𝓤 (onEntry 𝓤 H A answer-within.signature (κ, (α, (β, tt))) (q, (fullShare, (fullShare, tt))) (answer-args zd za m₅ m₆ δ ε) answer-vals) (AnswerWithin 𝓤 H A mem run .pre to-answer-within)
-    asked-answer-within = qed W ((‵ (flft κ q) ⊛ ‵ (flft α fullShare) ⊛ ‵ (flft β fullShare) ⊛ ‵ ftrue) ∷ ‵ (owns (N.the-row ∷ f64 ∷ ShrSlice (named 0) κ u32 ∷ usize ∷ MutRef (named 1) α Days ∷ MutRef (named 2) β Amounts ∷ []) (answer-args zd za m₅ m₆ δ ε) answer-vals) ∷ []) ∵ join ! $ frame ! $ done !
+    asked-answer-within = qed W ((‵ (flft κ q) ⊛ ‵ (flft α fullShare) ⊛ ‵ (flft β fullShare) ⊛ ‵ ftrue) ∷ ‵ (owns (N.the-row ∷ f64 ∷ ShrSlice (named 0) κ u32 ∷ usize ∷ MutRef (named 1) α (Kept u32) ∷ MutRef (named 2) β (Kept f64) ∷ []) (answer-args zd za m₅ m₆ δ ε) answer-vals) ∷ []) ∵ join ! $ frame ! $ done !
 
   abbrev to-begin : Begin 𝓤 H A mem run .Ghost
   to-begin = ((tt, tt, tt, (note, tt), (notes note, tt)), tt)
@@ -340,11 +301,11 @@ module _ {M : Type 1} (𝓤 : URA M) (H : Heap 𝓤) (A : Atoms 𝓤) (W : Given
     Λ = 𝓣 .Λ
 
     abbrev En : Env 𝓤 H
-    En = (C′.mir, l₀) ∷ (N′.mir, l₁) ∷ (float, l₂) ∷ (table-slice, l₃) ∷ (room-slice, l₄) ∷ (days-array, l₅) ∷ (amounts-array, l₆) ∷ (C′.mir, l₇) ∷ (word, l₈) ∷ (days-shared, l₉) ∷ (amounts-shared, l₁₀) ∷ (P′.mir, l₁₁) ∷ (word, l₁₂) ∷ (days-array, l₁₃) ∷ (amounts-array, l₁₄) ∷ (word, l₁₅) ∷ (days-lent, l₁₆) ∷ (amounts-lent, l₁₇) ∷ (tyBool, l₁₈) ∷ (T′.mir, l₁₉) ∷ (word, l₂₀) ∷ (tyPtr, l₂₁) ∷ []
+    En = (C′.mir, l₀) ∷ (N′.mir, l₁) ∷ (float, l₂) ∷ (table-slice, l₃) ∷ (room-slice, l₄) ∷ (kept-array u32, l₅) ∷ (kept-array f64, l₆) ∷ (C′.mir, l₇) ∷ (word, l₈) ∷ (kept-shared u32, l₉) ∷ (kept-shared f64, l₁₀) ∷ (P′.mir, l₁₁) ∷ (word, l₁₂) ∷ (kept-array u32, l₁₃) ∷ (kept-array f64, l₁₄) ∷ (word, l₁₅) ∷ (kept-lent u32, l₁₆) ∷ (kept-lent f64, l₁₇) ∷ (tyBool, l₁₈) ∷ (T′.mir, l₁₉) ∷ (word, l₂₀) ∷ (tyPtr, l₂₁) ∷ []
 
     -- the seven of `Front`, the locals from the last, of which the arrays are lent, and what the arrays' references own
     abbrev At : Upto → List (Item 𝓤)
-    At t = ‵ (fshr-bor κ (λ s. arr-parts (shares u32) (length table) .part s table b o)) ∷ ‵ (flft κ q) ∷ ‵ (fres γ (codedHoleys u32 .code (heres u32 table))) ∷ ‵ (at-slice u32 lent (sliceVal (b, o) (length table) ∷ [])) ∷ ‵ (fobs γ′ (codedHoleys T.the-row .code (heres T.the-row (t .out)))) ∷ ‵ (fbor κ′ (Held T.the-row (length (t .out)) b′ o′ γ′)) ∷ ‵ (flft κ′ q′) ∷ ‵ (froom tyPtr l₂₁ 0) ∷ ‵ (fdies tyPtr l₂₁) ∷ ‵ (froom word l₂₀ 0) ∷ ‵ (fdies word l₂₀) ∷ ‵ (froom T′.mir l₁₉ 0) ∷ ‵ (fdies T′.mir l₁₉) ∷ ‵ (froom tyBool l₁₈ 0) ∷ ‵ (fdies tyBool l₁₈) ∷ ‵ (froom amounts-lent l₁₇ 0) ∷ ‵ (fdies amounts-lent l₁₇) ∷ ‵ (froom days-lent l₁₆ 0) ∷ ‵ (fdies days-lent l₁₆) ∷ ‵ (froom word l₁₅ 0) ∷ ‵ (fdies word l₁₅) ∷ ‵ (froom amounts-array l₁₄ 0) ∷ ‵ (fdies amounts-array l₁₄) ∷ ‵ (froom days-array l₁₃ 0) ∷ ‵ (fdies days-array l₁₃) ∷ ‵ (fat fullShare word l₁₂ 0 (vint w64 (t .k))) ∷ ‵ (fdies word l₁₂) ∷ ‵ (fat fullShare P′.mir l₁₁ 0 (LL.val P.the-type P′.the-laws (t .paid))) ∷ ‵ (fdies P′.mir l₁₁) ∷ ‵ (fat fullShare amounts-shared l₁₀ 0 (vptr l₆ 0)) ∷ ‵ (fdies amounts-shared l₁₀) ∷ ‵ (fat fullShare days-shared l₉ 0 (vptr l₅ 0)) ∷ ‵ (fdies days-shared l₉) ∷ ‵ (fat fullShare word l₈ 0 (vint w64 (length to-write))) ∷ ‵ (fdies word l₈) ∷ ‵ (fat fullShare C′.mir l₇ 0 v) ∷ ‵ (fdies C′.mir l₇) ∷ ‵ (fdies amounts-array l₆) ∷ ‵ (fdies days-array l₅) ∷ ‵ (fat fullShare room-slice l₄ 0 (sliceVal (b′, o′) (length old))) ∷ ‵ (fdies room-slice l₄) ∷ ‵ (fat fullShare table-slice l₃ 0 (sliceVal (b, o) (length table))) ∷ ‵ (fdies table-slice l₃) ∷ ‵ (fat fullShare float l₂ 0 (vfloat binary64 position)) ∷ ‵ (fdies float l₂) ∷ ‵ (fat fullShare N′.mir l₁ 0 (LL.val N.the-type N′.the-laws note)) ∷ ‵ (fdies N′.mir l₁) ∷ ‵ (froom C′.mir l₀ 0) ∷ ‵ (fdies C′.mir l₀) ∷ ‵ (fshr-bor α (λ s. partAt Days s ds l₅ 0)) ∷ ‵ (flft α fullShare) ∷ ‵ (fres δ (Days .coded .code ds)) ∷ ‵ (fshr-bor β (λ s. partAt Amounts s xs l₆ 0)) ∷ ‵ (flft β fullShare) ∷ ‵ (fres ε (Amounts .coded .code xs)) ∷ ‵ (flent α (partAt Days fullShare ds l₅ 0)) ∷ ‵ (flent β (partAt Amounts fullShare xs l₆ 0)) ∷ []
+    At t = ‵ (fshr-bor κ (λ s. arr-parts (shares u32) (length table) .part s table b o)) ∷ ‵ (flft κ q) ∷ ‵ (fres γ (codedHoleys u32 .code (heres u32 table))) ∷ ‵ (at-slice u32 lent (sliceVal (b, o) (length table) ∷ [])) ∷ ‵ (fobs γ′ (codedHoleys T.the-row .code (heres T.the-row (t .out)))) ∷ ‵ (fbor κ′ (Held T.the-row (length (t .out)) b′ o′ γ′)) ∷ ‵ (flft κ′ q′) ∷ ‵ (froom tyPtr l₂₁ 0) ∷ ‵ (fdies tyPtr l₂₁) ∷ ‵ (froom word l₂₀ 0) ∷ ‵ (fdies word l₂₀) ∷ ‵ (froom T′.mir l₁₉ 0) ∷ ‵ (fdies T′.mir l₁₉) ∷ ‵ (froom tyBool l₁₈ 0) ∷ ‵ (fdies tyBool l₁₈) ∷ ‵ (froom (kept-lent f64) l₁₇ 0) ∷ ‵ (fdies (kept-lent f64) l₁₇) ∷ ‵ (froom (kept-lent u32) l₁₆ 0) ∷ ‵ (fdies (kept-lent u32) l₁₆) ∷ ‵ (froom word l₁₅ 0) ∷ ‵ (fdies word l₁₅) ∷ ‵ (froom (kept-array f64) l₁₄ 0) ∷ ‵ (fdies (kept-array f64) l₁₄) ∷ ‵ (froom (kept-array u32) l₁₃ 0) ∷ ‵ (fdies (kept-array u32) l₁₃) ∷ ‵ (fat fullShare word l₁₂ 0 (vint w64 (t .k))) ∷ ‵ (fdies word l₁₂) ∷ ‵ (fat fullShare P′.mir l₁₁ 0 (LL.val P.the-type P′.the-laws (t .paid))) ∷ ‵ (fdies P′.mir l₁₁) ∷ ‵ (fat fullShare (kept-shared f64) l₁₀ 0 (vptr l₆ 0)) ∷ ‵ (fdies (kept-shared f64) l₁₀) ∷ ‵ (fat fullShare (kept-shared u32) l₉ 0 (vptr l₅ 0)) ∷ ‵ (fdies (kept-shared u32) l₉) ∷ ‵ (fat fullShare word l₈ 0 (vint w64 (length to-write))) ∷ ‵ (fdies word l₈) ∷ ‵ (fat fullShare C′.mir l₇ 0 v) ∷ ‵ (fdies C′.mir l₇) ∷ ‵ (fdies (kept-array f64) l₆) ∷ ‵ (fdies (kept-array u32) l₅) ∷ ‵ (fat fullShare room-slice l₄ 0 (sliceVal (b′, o′) (length old))) ∷ ‵ (fdies room-slice l₄) ∷ ‵ (fat fullShare table-slice l₃ 0 (sliceVal (b, o) (length table))) ∷ ‵ (fdies table-slice l₃) ∷ ‵ (fat fullShare float l₂ 0 (vfloat binary64 position)) ∷ ‵ (fdies float l₂) ∷ ‵ (fat fullShare N′.mir l₁ 0 (LL.val N.the-type N′.the-laws note)) ∷ ‵ (fdies N′.mir l₁) ∷ ‵ (froom C′.mir l₀ 0) ∷ ‵ (fdies C′.mir l₀) ∷ ‵ (fshr-bor α (λ s. partAt (Kept u32) s ds l₅ 0)) ∷ ‵ (flft α fullShare) ∷ ‵ (fres δ ((Kept u32) .coded .code ds)) ∷ ‵ (fshr-bor β (λ s. partAt (Kept f64) s xs l₆ 0)) ∷ ‵ (flft β fullShare) ∷ ‵ (fres ε ((Kept f64) .coded .code xs)) ∷ ‵ (flent α (partAt (Kept u32) fullShare ds l₅ 0)) ∷ ‵ (flent β (partAt (Kept f64) fullShare xs l₆ 0)) ∷ []
 
     -- the next flow
     abbrev next-args : Upto → Note × (Float × (RefT (List ℕ) × (RefT (List ℕ) × (RefT (List Float) × (ℕ × (ℕ × (Paid × Unit {0})))))))
@@ -357,7 +318,7 @@ module _ {M : Type 1} (𝓤 : URA M) (H : Heap 𝓤) (A : Atoms 𝓤) (W : Given
     to-next-paid t = (((κ, (α, (β, tt))), (q, (fullShare, (fullShare, tt))), tt, next-args t, next-vals t), tt)
 
     asked-next-paid : (t : Upto) → t .k < length to-write → ent 𝓤 (onEntry 𝓤 H A next-paid.signature (κ, (α, (β, tt))) (q, (fullShare, (fullShare, tt))) (next-args t) (next-vals t)) (NextPaid 𝓤 H A mem run .pre (to-next-paid t))
-    asked-next-paid t l = qed W ((‵ (flft κ q) ⊛ ‵ (flft α fullShare) ⊛ ‵ (flft β fullShare) ⊛ ‵ ftrue) ∷ ‵ (owns (N.the-row ∷ f64 ∷ ShrSlice (named 0) κ u32 ∷ ShrRef (named 1) α Days ∷ ShrRef (named 2) β Amounts ∷ usize ∷ usize ∷ P.the-row ∷ []) (next-args t) (next-vals t)) ∷ []) ∵ says ! (coming note position table old t l ds xs kept, l) $ frame ! $ done !
+    asked-next-paid t l = qed W ((‵ (flft κ q) ⊛ ‵ (flft α fullShare) ⊛ ‵ (flft β fullShare) ⊛ ‵ ftrue) ∷ ‵ (owns (N.the-row ∷ f64 ∷ ShrSlice (named 0) κ u32 ∷ ShrRef (named 1) α (Kept u32) ∷ ShrRef (named 2) β (Kept f64) ∷ usize ∷ usize ∷ P.the-row ∷ []) (next-args t) (next-vals t)) ∷ []) ∵ says ! (coming note position table old t l ds xs kept, l) $ frame ! $ done !
 
     said-next-paid : (t : Upto) (p : Paid) → ent 𝓤 (ensured 𝓤 H A next-paid.ended (next-paid.clauses 𝓤 H A mem run) (κ, (α, (β, tt))) (next-args t) tt p) (fact 𝓤 (Came note position table (length to-write) (t .k) (p .flow) (p .next)))
     said-next-paid t p = exE 𝓤 _ (λ ws. snd∗ 𝓤 (sem 𝓤 H A (lasts next-paid.ended (κ, (α, (β, tt))) (next-args t) ws)) (fact 𝓤 (Came note position table (length to-write) (t .k) (p .flow) (p .next))))
@@ -497,12 +458,12 @@ module _ {M : Type 1} (𝓤 : URA M) (H : Heap 𝓤) (A : Atoms 𝓤) (W : Given
         lft-end ! tt $
         move ! (0 ∷ 55 ∷ []) $
         lent-back ! tt $
-        use1 W (‵ (fat fullShare (lone (Days .mir)) l₅ 0 (only (days-vals ds)))) (days-out ds l₅) $
+        use1 W (‵ (fat fullShare (lone ((Kept u32) .mir)) l₅ 0 (only (array-vals (uint-vals w32) ds)))) (kept-out u32 (uint-vals w32) (uint-tells w32) ds l₅) $
         move ! (53 ∷ []) $
         lft-end ! tt $
         move ! (0 ∷ 55 ∷ []) $
         lent-back ! tt $
-        use1 W (‵ (fat fullShare (lone (Amounts .mir)) l₆ 0 (only (amounts-vals xs)))) (amounts-out xs l₆) $
+        use1 W (‵ (fat fullShare (lone ((Kept f64) .mir)) l₆ 0 (only (array-vals (float-vals binary64) xs)))) (kept-out f64 (float-vals binary64) (float-tells binary64) xs l₆) $
         returns ! (look ! 49 refl) $
         forget ! 49 refl $
         forget ! 47 refl $
@@ -573,7 +534,7 @@ module _ {M : Type 1} (𝓤 : URA M) (H : Heap 𝓤) (A : Atoms 𝓤) (W : Given
         k-fits l = omega (arith, gm .0, gm .1, enough-room note position table old)
 
     -- after the first pass: how many, and the loop
-    tested : Sq W (‵ (fshr-bor κ (λ s. arr-parts (shares u32) (length table) .part s table b o)) ∷ ‵ (flft κ q) ∷ ‵ (fres γ (codedHoleys u32 .code (heres u32 table))) ∷ ‵ (at-slice u32 lent (sliceVal (b, o) (length table) ∷ [])) ∷ ‵ (fobs γ′ (codedHoleys T.the-row .code (heres T.the-row old))) ∷ ‵ (fbor κ′ (Held T.the-row (length old) b′ o′ γ′)) ∷ ‵ (flft κ′ q′) ∷ ‵ (froom tyPtr l₂₁ 0) ∷ ‵ (fdies tyPtr l₂₁) ∷ ‵ (froom word l₂₀ 0) ∷ ‵ (fdies word l₂₀) ∷ ‵ (froom T′.mir l₁₉ 0) ∷ ‵ (fdies T′.mir l₁₉) ∷ ‵ (froom tyBool l₁₈ 0) ∷ ‵ (fdies tyBool l₁₈) ∷ ‵ (froom amounts-lent l₁₇ 0) ∷ ‵ (fdies amounts-lent l₁₇) ∷ ‵ (froom days-lent l₁₆ 0) ∷ ‵ (fdies days-lent l₁₆) ∷ ‵ (froom word l₁₅ 0) ∷ ‵ (fdies word l₁₅) ∷ ‵ (froom amounts-array l₁₄ 0) ∷ ‵ (fdies amounts-array l₁₄) ∷ ‵ (froom days-array l₁₃ 0) ∷ ‵ (fdies days-array l₁₃) ∷ ‵ (froom word l₁₂ 0) ∷ ‵ (fdies word l₁₂) ∷ ‵ (froom P′.mir l₁₁ 0) ∷ ‵ (fdies P′.mir l₁₁) ∷ ‵ (froom amounts-shared l₁₀ 0) ∷ ‵ (fdies amounts-shared l₁₀) ∷ ‵ (froom days-shared l₉ 0) ∷ ‵ (fdies days-shared l₉) ∷ ‵ (froom word l₈ 0) ∷ ‵ (fdies word l₈) ∷ ‵ (fat fullShare C′.mir l₇ 0 v) ∷ ‵ (fdies C′.mir l₇) ∷ ‵ (fdies amounts-array l₆) ∷ ‵ (fdies days-array l₅) ∷ ‵ (fat fullShare room-slice l₄ 0 (sliceVal (b′, o′) (length old))) ∷ ‵ (fdies room-slice l₄) ∷ ‵ (fat fullShare table-slice l₃ 0 (sliceVal (b, o) (length table))) ∷ ‵ (fdies table-slice l₃) ∷ ‵ (fat fullShare float l₂ 0 (vfloat binary64 position)) ∷ ‵ (fdies float l₂) ∷ ‵ (fat fullShare N′.mir l₁ 0 (LL.val N.the-type N′.the-laws note)) ∷ ‵ (fdies N′.mir l₁) ∷ ‵ (froom C′.mir l₀ 0) ∷ ‵ (fdies C′.mir l₀) ∷ ‵ (fshr-bor α (λ s. partAt Days s ds l₅ 0)) ∷ ‵ (flft α fullShare) ∷ ‵ (fres δ (Days .coded .code ds)) ∷ ‵ (fshr-bor β (λ s. partAt Amounts s xs l₆ 0)) ∷ ‵ (flft β fullShare) ∷ ‵ (fres ε (Amounts .coded .code xs)) ∷ ‵ (flent α (partAt Days fullShare ds l₅ 0)) ∷ ‵ (flent β (partAt Amounts fullShare xs l₆ 0)) ∷ []) (runs Cs Λ En mir.t-9 (atRet En Post))
+    tested : Sq W (‵ (fshr-bor κ (λ s. arr-parts (shares u32) (length table) .part s table b o)) ∷ ‵ (flft κ q) ∷ ‵ (fres γ (codedHoleys u32 .code (heres u32 table))) ∷ ‵ (at-slice u32 lent (sliceVal (b, o) (length table) ∷ [])) ∷ ‵ (fobs γ′ (codedHoleys T.the-row .code (heres T.the-row old))) ∷ ‵ (fbor κ′ (Held T.the-row (length old) b′ o′ γ′)) ∷ ‵ (flft κ′ q′) ∷ ‵ (froom tyPtr l₂₁ 0) ∷ ‵ (fdies tyPtr l₂₁) ∷ ‵ (froom word l₂₀ 0) ∷ ‵ (fdies word l₂₀) ∷ ‵ (froom T′.mir l₁₉ 0) ∷ ‵ (fdies T′.mir l₁₉) ∷ ‵ (froom tyBool l₁₈ 0) ∷ ‵ (fdies tyBool l₁₈) ∷ ‵ (froom (kept-lent f64) l₁₇ 0) ∷ ‵ (fdies (kept-lent f64) l₁₇) ∷ ‵ (froom (kept-lent u32) l₁₆ 0) ∷ ‵ (fdies (kept-lent u32) l₁₆) ∷ ‵ (froom word l₁₅ 0) ∷ ‵ (fdies word l₁₅) ∷ ‵ (froom (kept-array f64) l₁₄ 0) ∷ ‵ (fdies (kept-array f64) l₁₄) ∷ ‵ (froom (kept-array u32) l₁₃ 0) ∷ ‵ (fdies (kept-array u32) l₁₃) ∷ ‵ (froom word l₁₂ 0) ∷ ‵ (fdies word l₁₂) ∷ ‵ (froom P′.mir l₁₁ 0) ∷ ‵ (fdies P′.mir l₁₁) ∷ ‵ (froom (kept-shared f64) l₁₀ 0) ∷ ‵ (fdies (kept-shared f64) l₁₀) ∷ ‵ (froom (kept-shared u32) l₉ 0) ∷ ‵ (fdies (kept-shared u32) l₉) ∷ ‵ (froom word l₈ 0) ∷ ‵ (fdies word l₈) ∷ ‵ (fat fullShare C′.mir l₇ 0 v) ∷ ‵ (fdies C′.mir l₇) ∷ ‵ (fdies (kept-array f64) l₆) ∷ ‵ (fdies (kept-array u32) l₅) ∷ ‵ (fat fullShare room-slice l₄ 0 (sliceVal (b′, o′) (length old))) ∷ ‵ (fdies room-slice l₄) ∷ ‵ (fat fullShare table-slice l₃ 0 (sliceVal (b, o) (length table))) ∷ ‵ (fdies table-slice l₃) ∷ ‵ (fat fullShare float l₂ 0 (vfloat binary64 position)) ∷ ‵ (fdies float l₂) ∷ ‵ (fat fullShare N′.mir l₁ 0 (LL.val N.the-type N′.the-laws note)) ∷ ‵ (fdies N′.mir l₁) ∷ ‵ (froom C′.mir l₀ 0) ∷ ‵ (fdies C′.mir l₀) ∷ ‵ (fshr-bor α (λ s. partAt (Kept u32) s ds l₅ 0)) ∷ ‵ (flft α fullShare) ∷ ‵ (fres δ ((Kept u32) .coded .code ds)) ∷ ‵ (fshr-bor β (λ s. partAt (Kept f64) s xs l₆ 0)) ∷ ‵ (flft β fullShare) ∷ ‵ (fres ε ((Kept f64) .coded .code xs)) ∷ ‵ (flent α (partAt (Kept u32) fullShare ds l₅ 0)) ∷ ‵ (flent β (partAt (Kept f64) fullShare xs l₆ 0)) ∷ []) (runs Cs Λ En mir.t-9 (atRet En Post))
     tested =
         nothing ! $
         owned ! C.the-row (Is C.the-row) (EL.makes C.the-type C′.the-plain 𝓤 H A) r (v ∷ []) made $
@@ -630,46 +591,46 @@ module _ {M : Type 1} (𝓤 : URA M) (H : Heap 𝓤) (A : Atoms 𝓤) (W : Given
         nothing ! $
         use2 W (raw (NoDays 𝓤 H A mem run .pre to-no-days)) asked-no-days $
         calls-at ! fm (NoDays 𝓤 H A mem run) known-no-days to-no-days (no-more !) (λ ud.
-        use1 W (later (some (λ (zd : List ℕ). (‵ ftrue ⊛ ‵ (Days .own zd (ud ∷ []))) ⊛ raw (ensured 𝓤 H A no-days.ended (no-days.clauses 𝓤 H A mem run) tt tt tt zd)))) (id⊢ 𝓤 _) $ await ! tt $ pick ! (λ zd.
+        use1 W (later (some (λ (zd : List ℕ). (‵ ftrue ⊛ ‵ ((Kept u32) .own zd (ud ∷ []))) ⊛ raw (ensured 𝓤 H A no-days.ended (no-days.clauses 𝓤 H A mem run) tt tt tt zd)))) (id⊢ 𝓤 _) $ await ! tt $ pick ! (λ zd.
         split ! $
         move ! (1 ∷ []) $
         drop ! $
         split ! $
         move ! (1 ∷ []) $
-        peeks ! Days (Is Days) (shows 𝓤 H A Days) zd (ud ∷ []) (λ isd.
-        land ! (from ! (stop !)) (init ! 25 refl (days-typed zd ud isd)) $
+        peeks ! (Kept u32) (Is (Kept u32)) (shows 𝓤 H A (Kept u32)) zd (ud ∷ []) (λ isd.
+        land ! (from ! (stop !)) (init ! 25 refl (kept-typed u32 (uint-lawful 𝓤 H A W w32) zd ud isd)) $
         drop ! $
         drop ! $
-        assigns ! (of-opd ! (load ! (from ! (stop !)) (look ! 23 refl))) (from ! (stop !)) (init ! 39 refl (days-typed zd ud isd)) $
+        assigns ! (of-opd ! (load ! (from ! (stop !)) (look ! 23 refl))) (from ! (stop !)) (init ! 39 refl (kept-typed u32 (uint-lawful 𝓤 H A W w32) zd ud isd)) $
         nothing ! $
         nothing ! $
         use2 W (raw (NoAmounts 𝓤 H A mem run .pre to-no-amounts)) asked-no-amounts $
         calls-at ! fm (NoAmounts 𝓤 H A mem run) known-no-amounts to-no-amounts (no-more !) (λ ua.
-        use1 W (later (some (λ (za : List Float). (‵ ftrue ⊛ ‵ (Amounts .own za (ua ∷ []))) ⊛ raw (ensured 𝓤 H A no-amounts.ended (no-amounts.clauses 𝓤 H A mem run) tt tt tt za)))) (id⊢ 𝓤 _) $ await ! tt $ pick ! (λ za.
+        use1 W (later (some (λ (za : List Float). (‵ ftrue ⊛ ‵ ((Kept f64) .own za (ua ∷ []))) ⊛ raw (ensured 𝓤 H A no-amounts.ended (no-amounts.clauses 𝓤 H A mem run) tt tt tt za)))) (id⊢ 𝓤 _) $ await ! tt $ pick ! (λ za.
         split ! $
         move ! (1 ∷ []) $
         drop ! $
         split ! $
         move ! (1 ∷ []) $
-        peeks ! Amounts (Is Amounts) (shows 𝓤 H A Amounts) za (ua ∷ []) (λ isa.
-        land ! (from ! (stop !)) (init ! 23 refl (amounts-typed za ua isa)) $
+        peeks ! (Kept f64) (Is (Kept f64)) (shows 𝓤 H A (Kept f64)) za (ua ∷ []) (λ isa.
+        land ! (from ! (stop !)) (init ! 23 refl (kept-typed f64 (float-lawful 𝓤 H A W binary64) za ua isa)) $
         drop ! $
         drop ! $
-        assigns ! (of-opd ! (load ! (from ! (stop !)) (look ! 21 refl))) (from ! (stop !)) (init ! 37 refl (amounts-typed za ua isa)) $
+        assigns ! (of-opd ! (load ! (from ! (stop !)) (look ! 21 refl))) (from ! (stop !)) (init ! 37 refl (kept-typed f64 (float-lawful 𝓤 H A W binary64) za ua isa)) $
         assigns ! (of-opd ! (load ! (from ! (fld ! refl (stop !))) (look-in ! 41 (sub ! 1 refl (whole !))))) (from ! (stop !)) (init ! 19 refl (tt, record { fits = gm .0 })) $
         assigns ! (addr ! (from ! (stop !))) (from ! (stop !)) (init ! 17 refl (tt, tt)) $
         assigns ! (addr ! (from ! (stop !))) (from ! (stop !)) (init ! 15 refl (tt, tt)) $
         move ! (39 ∷ []) $
-        use1 W (‵ (partAt Days fullShare zd l₅ 0)) (days-in zd ud isd l₅) $
+        use1 W (‵ (partAt (Kept u32) fullShare zd l₅ 0)) (kept-in u32 (uint-makes 𝓤 H A W w32) zd ud isd l₅) $
         lft-new ! tt (λ α.
         move ! (1 ∷ []) $
-        use1 W (later (some (λ (δ : GName). ‵ (MutRef (named 1) (α ∷ []) Days .own (record { ptr = (l₅, 0); name = δ; now = zd }) (vptr l₅ 0 ∷ [])) ⊛ ‵ (flent (α ∷ []) (Lies (Mem.mem Days) l₅ 0 δ))))) (lends-ref 𝓤 H A W Days (named 1) (α ∷ []) zd l₅ 0) $ await ! tt $ pick ! (λ δ.
+        use1 W (later (some (λ (δ : GName). ‵ (MutRef (named 1) (α ∷ []) (Kept u32) .own (record { ptr = (l₅, 0); name = δ; now = zd }) (vptr l₅ 0 ∷ [])) ⊛ ‵ (flent (α ∷ []) (Lies (Mem.mem (Kept u32)) l₅ 0 δ))))) (lends-ref 𝓤 H A W (Kept u32) (named 1) (α ∷ []) zd l₅ 0) $ await ! tt $ pick ! (λ δ.
         split ! $
         move ! (40 ∷ []) $
-        use1 W (‵ (partAt Amounts fullShare za l₆ 0)) (amounts-in za ua isa l₆) $
+        use1 W (‵ (partAt (Kept f64) fullShare za l₆ 0)) (kept-in f64 (float-makes 𝓤 H A W binary64) za ua isa l₆) $
         lft-new ! tt (λ β.
         move ! (1 ∷ []) $
-        use1 W (later (some (λ (ε : GName). ‵ (MutRef (named 2) (β ∷ []) Amounts .own (record { ptr = (l₆, 0); name = ε; now = za }) (vptr l₆ 0 ∷ [])) ⊛ ‵ (flent (β ∷ []) (Lies (Mem.mem Amounts) l₆ 0 ε))))) (lends-ref 𝓤 H A W Amounts (named 2) (β ∷ []) za l₆ 0) $ await ! tt $ pick ! (λ ε.
+        use1 W (later (some (λ (ε : GName). ‵ (MutRef (named 2) (β ∷ []) (Kept f64) .own (record { ptr = (l₆, 0); name = ε; now = za }) (vptr l₆ 0 ∷ [])) ⊛ ‵ (flent (β ∷ []) (Lies (Mem.mem (Kept f64)) l₆ 0 ε))))) (lends-ref 𝓤 H A W (Kept f64) (named 2) (β ∷ []) za l₆ 0) $ await ! tt $ pick ! (λ ε.
         split ! $
         nothing ! $
         move ! (1 ∷ 0 ∷ []) $
@@ -737,21 +698,21 @@ module _ {M : Type 1} (𝓤 : URA M) (H : Heap 𝓤) (A : Atoms 𝓤) (W : Given
         move ! (0 ∷ []) $
         lft-end ! tt $
         move ! (0 ∷ 9 ∷ 4 ∷ []) $
-        use3 W (later (‵ (partAt Amounts fullShare xs l₆ 0))) (ref-back 𝓤 H A W Amounts (β ∷ []) ε xs l₆ 0) $ await ! tt $
+        use3 W (later (‵ (partAt (Kept f64) fullShare xs l₆ 0))) (ref-back 𝓤 H A W (Kept f64) (β ∷ []) ε xs l₆ 0) $ await ! tt $
         move ! (2 ∷ []) $
         lft-end ! tt $
         move ! (0 ∷ 8 ∷ 5 ∷ []) $
-        use3 W (later (‵ (partAt Days fullShare ds l₅ 0))) (ref-back 𝓤 H A W Days (α ∷ []) δ ds l₅ 0) $ await ! tt $
+        use3 W (later (‵ (partAt (Kept u32) fullShare ds l₅ 0))) (ref-back 𝓤 H A W (Kept u32) (α ∷ []) δ ds l₅ 0) $ await ! tt $
         lft-new ! tt (λ α′.
         move ! (1 ∷ []) $
-        use1 W (later (some (λ (δ′ : GName). ‵ (ShrRef (named 1) (α′ ∷ []) Days .own (record { ptr = (l₅, 0); name = δ′; now = ds }) (vptr l₅ 0 ∷ [])) ⊛ ‵ (flent (α′ ∷ []) (partAt Days fullShare ds l₅ 0))))) (lends-shr 𝓤 H A W Days (named 1) (α′ ∷ []) fullShare ds l₅ 0) $ await ! tt $ pick ! (λ δ′.
+        use1 W (later (some (λ (δ′ : GName). ‵ (ShrRef (named 1) (α′ ∷ []) (Kept u32) .own (record { ptr = (l₅, 0); name = δ′; now = ds }) (vptr l₅ 0 ∷ [])) ⊛ ‵ (flent (α′ ∷ []) (partAt (Kept u32) fullShare ds l₅ 0))))) (lends-shr 𝓤 H A W (Kept u32) (named 1) (α′ ∷ []) fullShare ds l₅ 0) $ await ! tt $ pick ! (λ δ′.
         split ! $
         fsplit ! $
         drop ! $
         fsplit ! $
         lft-new ! tt (λ β′.
         move ! (5 ∷ []) $
-        use1 W (later (some (λ (ε′ : GName). ‵ (ShrRef (named 2) (β′ ∷ []) Amounts .own (record { ptr = (l₆, 0); name = ε′; now = xs }) (vptr l₆ 0 ∷ [])) ⊛ ‵ (flent (β′ ∷ []) (partAt Amounts fullShare xs l₆ 0))))) (lends-shr 𝓤 H A W Amounts (named 2) (β′ ∷ []) fullShare xs l₆ 0) $ await ! tt $ pick ! (λ ε′.
+        use1 W (later (some (λ (ε′ : GName). ‵ (ShrRef (named 2) (β′ ∷ []) (Kept f64) .own (record { ptr = (l₆, 0); name = ε′; now = xs }) (vptr l₆ 0 ∷ [])) ⊛ ‵ (flent (β′ ∷ []) (partAt (Kept f64) fullShare xs l₆ 0))))) (lends-shr 𝓤 H A W (Kept f64) (named 2) (β′ ∷ []) fullShare xs l₆ 0) $ await ! tt $ pick ! (λ ε′.
         split ! $
         fsplit ! $
         drop ! $

@@ -6,8 +6,8 @@ use borrow.Author.Needs.{needs}
 use Rattle.date_step.specs.Steps.{daysLater, monthsLater, yearsLater}
 use Rattle.time_period.specs.Steps.{absent, businessStep, unitStep}
 use Rattle.time_period.specs.declared.TimePeriodUnit.{TimePeriodUnit}
-use Rattle.date_step.proofs.Landing.{wide-fits, widened}
-use Rattle.time_period.proofs.Signs.{told, weeks-fit, weeks-read}
+use Rattle.date_step.proofs.Landing.{wide-fits, wide-short, widened}
+use Rattle.time_period.proofs.Signs.{told, weeks-fit, weeks-short, weeks-read}
 use Rattle.time_period.proofs.step.Statement.{statement}
 use Rattle.time_period.proofs.step.Tie as tie
 
@@ -18,7 +18,9 @@ cast-days-later : tie.Need-cast-days-later
 cast-days-later c = wide-fits _ (told (c .before .before .before .before .args .p .num) (c .struct-told .given .0 .1))
 
 days-later-requires : tie.Need-days-later-requires
-days-later-requires c κs = search needs
+days-later-requires c κs =
+    let s : tie.Start = c .before .before .before .before in
+    (s .pre, wide-short _ (told (s .args .p .num) (c .struct-told .given .0 .1)))
 
 enum-told-2 : tie.Need-enum-told-2
 enum-told-2 c = search needs
@@ -33,7 +35,9 @@ mul-days-later : tie.Need-mul-days-later
 mul-days-later c = weeks-fit _ (told (c .before .before .before .before .args .p .num) (c .struct-told2 .given .0 .1))
 
 days-later-requires-2 : tie.Need-days-later-requires-2
-days-later-requires-2 c κs = search needs
+days-later-requires-2 c κs =
+    let s : tie.Start = c .before .before .before .before in
+    (s .pre, weeks-short _ (told (s .args .p .num) (c .struct-told2 .given .0 .1)))
 
 enum-told-4 : tie.Need-enum-told-4
 enum-told-4 c = search needs

@@ -1,0 +1,23 @@
+-- `business_days::prev_bday` meets its contract: one step back, judged in the same order.
+-- Assumes nothing.
+use mathlib.Core.Path.{_∙_, ap}
+use borrow.Author.Needs.{needs}
+use Rattle.paper.specs.Outcome.{Outcome}
+use Rattle.calendar.specs.declared.Day.{Day}
+use Rattle.holidays.specs.Answers.{judged, prevBday, bdaysEarlier}
+use Rattle.holidays.specs.Business.{prevFrom}
+use Rattle.holidays.proofs.Steps.{one-step}
+use Rattle.business_days.proofs.prev_bday.Statement.{statement}
+use Rattle.business_days.proofs.prev_bday.Tie as tie
+
+bdays-earlier-requires : tie.Need-bdays-earlier-requires
+bdays-earlier-requires c κs = search needs
+
+returns : tie.Need-returns
+unfolding prevBday bdaysEarlier
+returns c =
+    let s = c .before .before .args in
+    c .bdays-earlier .ensures ∙ ap (λ (o : Outcome Day). judged (s .d) (s .table .now) o) (one-step (prevFrom (s .table .now)) (s .d .0))
+
+pub prev-bday-spec : {M : Type 1} → statement M
+prev-bday-spec = tie.close (tie.spec bdays-earlier-requires returns)

@@ -1,0 +1,25 @@
+-- Codes by a `match`: what its last arm stands for.
+-- Assumes nothing.
+use Prim.Native.Nat.{ℕ, zero, suc, _≤_}
+use mathlib.Core.Path.{_≡_, refl}
+use native.Mathlib.Omega.{arith}
+use borrow.Author.Tests.{le-ltb}
+use Rattle.paper.specs.Outcome.{refused}
+use Rattle.day_adjust.specs.declared.DayAdjust.the-variants as rule
+use Rattle.packed_codes.specs.Codes.{unitOfCode, ruleOfCode}
+
+pub unit-else : (n : ℕ) → (n ≡ 0 → ⊥) → (n ≡ 1 → ⊥) → (n ≡ 2 → ⊥) → (n ≡ 3 → ⊥) → (n ≡ 4 → ⊥) → refused 18 ≡ unitOfCode n
+unfolding unitOfCode
+unit-else n a b c d e =
+    let l1 : 1 ≤ n = omega arith in
+    let l2 : 2 ≤ n = omega arith in
+    let l3 : 3 ≤ n = omega arith in
+    let l4 : 4 ≤ n = omega arith in
+    rw (le-ltb n 5 (omega arith))
+
+pub rule-else : (n : ℕ) → (n ≡ 0 → ⊥) → (n ≡ 1 → ⊥) → (n ≡ 2 → ⊥) → rule.Modified ≡ ruleOfCode n
+rule-else zero a b c = absurd (a refl)
+rule-else (suc zero) a b c = absurd (b refl)
+rule-else (suc (suc zero)) a b c = absurd (c refl)
+rule-else (suc (suc (suc zero))) a b c = refl
+rule-else (suc (suc (suc (suc n)))) a b c = refl

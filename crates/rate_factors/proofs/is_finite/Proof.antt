@@ -1,0 +1,11 @@
+-- `rate_factors::is_finite` meets its contract: a finite number less itself equals itself. A law of Numbers.
+-- Assumes nothing.
+use Rattle.rate_factors.proofs.Numbers.{less-itself}
+use Rattle.rate_factors.proofs.is_finite.Statement.{statement}
+use Rattle.rate_factors.proofs.is_finite.Tie as tie
+
+returns : tie.Need-returns
+returns c = less-itself (c .args .x)
+
+pub is-finite-spec : {M : Type 1} → statement M
+is-finite-spec = tie.close (tie.spec returns)

@@ -1,0 +1,13 @@
+-- `rate_factors::simple_factor` meets its contract: the operations, each literal by its pattern.
+-- Assumes nothing.
+use Rattle.rate_factors.specs.Factors.{factorOf}
+use Rattle.rate_factors.proofs.Numbers.{lit1}
+use Rattle.rate_factors.proofs.simple_factor.Statement.{statement}
+use Rattle.rate_factors.proofs.simple_factor.Tie as tie
+
+returns : tie.Need-returns
+unfolding factorOf
+returns c = rw (← lit1)
+
+pub simple-factor-spec : {M : Type 1} → statement M
+simple-factor-spec = tie.close (tie.spec returns)

@@ -52,7 +52,7 @@ def q_read_decimal(m):
 
 def q_decimal_length_of_number(m):
     n = crowded(m, 64)
-    return Question("text::decimal_length", 61, Q(n), None, lambda: str(len(str(n))))
+    return Question("text_lengths::decimal_length", 61, Q(n), None, lambda: str(len(str(n))))
 
 
 def q_padded_length(m):

@@ -87,7 +87,7 @@ fn fraction(note: Note, p: CouponPeriod) -> YearFraction
         roll: RollDate::Date(start),
         period: RollPeriod::Period(period),
     };
-    day_count_conv::fraction_judged(rule, start, p.end, x)
+    judged_fractions::fraction_judged(rule, start, p.end, x)
 }
 
 // Elapsed days over period days.
@@ -95,9 +95,9 @@ fn elapsed_part(p: CouponPeriod, today: Date) -> f64
     requires { ⌜ (isDate today ≡ true) × Begun today p ⌝ }
     ensures { λ r. ⌜ r ≡ over (pos (elapsedDays p today)) (periodDays p) ⌝ }
 {
-    let start = calendar::number_of(p.start);
-    let elapsed = calendar::number_of(today) - start;
-    let days = calendar::number_of(p.end) - start;
+    let start = march_years::number_of(p.start);
+    let elapsed = march_years::number_of(today) - start;
+    let days = march_years::number_of(p.end) - start;
     elapsed as f64 / days as f64
 }
 
@@ -105,7 +105,7 @@ fn due(note: Note, fraction: f64, p: CouponPeriod, today: Date) -> f64
     requires { ⌜ (isDate today ≡ true) × Begun today p ⌝ }
     ensures { λ r. ⌜ r ≡ dueBits note fraction (elapsedDays p today) (periodDays p) ⌝ }
 {
-    let amount = bond::interest(note.denomination as f64, note.rate, fraction);
+    let amount = note_coupons::interest(note.denomination as f64, note.rate, fraction);
     amount * elapsed_part(p, today)
 }
 
@@ -152,7 +152,7 @@ fn accrued_on(note: Note, today: Date) -> YearFraction
     if calendar::is_before(today, start) {
         return YearFraction::Fraction(0.0);
     }
-    match bond::first_coupon_end(note) {
+    match note_coupons::first_coupon_end(note) {
         DateAnswer::Date(end) => accrued_from(note, today, CouponPeriod { start, end }),
         DateAnswer::Refused(n) => YearFraction::Refused(n),
     }

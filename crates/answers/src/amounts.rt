@@ -41,7 +41,7 @@ fn extras(f: &[u8]) -> Extras {
 
 fn year_fraction(f: &[u8]) -> Told {
     let rule = fields::convention(f, 0);
-    line::fraction(day_count_conv::year_fraction(
+    line::fraction(year_fractions::year_fraction(
         rule,
         fields::date(f, 1),
         fields::date(f, 13),
@@ -85,7 +85,7 @@ fn of_rates(verb: u8, f: &[u8]) -> Told {
 
 // A date's serial day, 0 where there is none.
 fn day_number(t: Date) -> u32 {
-    match calendar::day_of(t) {
+    match serial_days::day_of(t) {
         DayAnswer::Day(d) => d.0,
         DayAnswer::Refused(_) => 0,
     }

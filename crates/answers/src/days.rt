@@ -35,7 +35,7 @@ fn of_dates(verb: u8, f: &[u8]) -> Told {
         4 => Told::Bool(calendar::is_date(a)),
         6 => Told::Bool(calendar::is_before(a, b)),
         7 => Told::Bool(calendar::is_same(a, b)),
-        _ => line::day(calendar::day_of(a)),
+        _ => line::day(serial_days::day_of(a)),
     }
 }
 
@@ -44,10 +44,10 @@ fn of_days(verb: u8, f: &[u8]) -> Told {
     let b = fields::day(f, 4);
     match verb {
         5 => Told::Bool(calendar::is_day(a)),
-        9 => line::date(calendar::date_of(a)),
-        10 => weekday(calendar::weekday(a)),
-        11 => days(calendar::days_between(a, b)),
-        _ => line::day(calendar::day_after(a, Days(b.0))),
+        9 => line::date(serial_days::date_of(a)),
+        10 => weekday(serial_days::weekday(a)),
+        11 => days(serial_days::days_between(a, b)),
+        _ => line::day(serial_days::day_after(a, Days(b.0))),
     }
 }
 

@@ -23,7 +23,7 @@ pub(crate) fn told(verb: u8, f: &[u8]) -> Told {
     let note = fields::note(f);
     match verb {
         48 => checked(bond::check_note(note)),
-        49 => line::date(bond::first_coupon_end(note)),
+        49 => line::date(note_coupons::first_coupon_end(note)),
         79 => checked(bond::check_note_with(note, fields::yes(f, 66), fields::yes(f, 67))),
         _ => line::fraction(accrued_interest::accrued_interest(note, fields::date(f, 66))),
     }

@@ -29,9 +29,9 @@ fn amount(verb: u8, f: &[u8]) -> f64 {
     let x = fields::float(f, 66);
     let y = fields::float(f, 74);
     match verb {
-        80 => bond::interest(x, y, fields::float(f, 82)),
-        81 => bond::nominal(x, fields::note(f)),
-        _ => bond::coupon_amount(x, fields::note(f), y),
+        80 => note_coupons::interest(x, y, fields::float(f, 82)),
+        81 => note_coupons::nominal(x, fields::note(f)),
+        _ => note_coupons::coupon_amount(x, fields::note(f), y),
     }
 }
 

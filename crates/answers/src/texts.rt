@@ -48,7 +48,7 @@ fn of_periods(verb: u8, f: &[u8]) -> Told {
     let p = fields::period(f, 0);
     let t = fields::date(f, 5);
     match verb {
-        25 => frequency(time_period::frequency(p)),
+        25 => frequency(period_frequency::frequency(p)),
         26 => line::period(time_period::inverse(p)),
         27 => line::date(period_steps::add_to(p, t)),
         _ => line::date(period_steps::sub_from(p, t)),

@@ -8,7 +8,7 @@ use lib.Pow.{pow-add, pow-lt}
 use lib.ListN.{length, take, set, getD}
 use lib.Seq.{take-set-le, take-length, take-at, drop-length, getD-at, getD-take, take-take}
 use Rattle.text.specs.Writing.{digits, put}
-use Rattle.text.proofs.Digits.{length-digits}
+use Rattle.text_lengths.proofs.Digits.{length-digits}
 use Rattle.text.proofs.Putting.{put-last, put-none}
 use Rattle.big_digits.specs.BigDigits.{Multiplied}
 

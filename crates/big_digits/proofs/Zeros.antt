@@ -11,7 +11,7 @@ use lib.ListN.{length, drop, getD, drop-of-length-le}
 use borrow.Author.Tests.{eq-eqb, ne-eqb}
 use Rattle.paper.specs.Outcome.{pick}
 use Rattle.text.specs.Writing.{digits, places}
-use Rattle.text.proofs.Digits.{pow-some, lt-or-le, digits-first, places-few, places-least, places-enough}
+use Rattle.text_lengths.proofs.Digits.{pow-some, lt-or-le, digits-first, places-few, places-least, places-enough}
 use Rattle.reading.proofs.Decimals.{byte-first}
 use Rattle.big_digits.specs.BigDigits.{zerosLeading}
 

@@ -14,7 +14,7 @@ pub fn is_business_day(d: Day, table: &[u32]) -> BusinessAnswer
         return BusinessAnswer::Refused(paper::BAD_HOLIDAY_TABLE);
     }
     let i = holidays::first_from(table, d.0);
-    BusinessAnswer::Business(holidays::business_at(d.0, table, i))
+    BusinessAnswer::Business(business_walks::business_at(d.0, table, i))
 }
 
 // k business days on; 0 of them stay on the day, a business day or not.
@@ -27,7 +27,7 @@ pub fn bdays_later(d: Day, k: u32, table: &[u32]) -> DayAnswer
     if !holidays::is_table(table) {
         return DayAnswer::Refused(paper::BAD_HOLIDAY_TABLE);
     }
-    holidays::later_from(d.0, k, table)
+    business_walks::later_from(d.0, k, table)
 }
 
 // k business days back; 0 of them stay on the day, a business day or not.
@@ -40,7 +40,7 @@ pub fn bdays_earlier(d: Day, k: u32, table: &[u32]) -> DayAnswer
     if !holidays::is_table(table) {
         return DayAnswer::Refused(paper::BAD_HOLIDAY_TABLE);
     }
-    holidays::earlier_from(d.0, k, table)
+    business_walks::earlier_from(d.0, k, table)
 }
 
 // The next business day, strictly later.

@@ -3,4 +3,3 @@ pub mod Order
 pub mod Inverse
 pub mod Examples
 pub mod OneOutcome
-pub mod March

@@ -32,7 +32,7 @@ fn no_date() -> Date
 pub fn date_on(day: u32) -> Date
     ensures { λ r. ⌜ r ≡ dateOn day ⌝ }
 {
-    match calendar::date_of(Day(day)) {
+    match serial_days::date_of(Day(day)) {
         DateAnswer::Date(date) => date,
         DateAnswer::Refused(_n) => no_date(),
     }

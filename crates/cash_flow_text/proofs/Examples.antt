@@ -16,7 +16,8 @@ use Rattle.cash_amount.specs.declared.Currency.{Currency}
 use Rattle.cash_flow.specs.declared.CashFlow.{CashFlow}
 use Rattle.decimal.specs.Decimal.{tenThousandths, fourDecimals, decimalText16}
 use Rattle.date_text.specs.DateTexts.{dateText, dateShown, shownBytes}
-use Rattle.cash_flow_text.specs.Texts.{amountText, flowText, amountShown, flowShown}
+use Rattle.amount_text.specs.AmountTexts.{amountText, amountShown}
+use Rattle.cash_flow_text.specs.Texts.{flowText, flowShown}
 
 abbrev on : ℕ → ℕ → ℕ → Date
 on y m d = record { year = y; month = m; day = d }

@@ -1,67 +1,20 @@
--- How long the texts are: no finite f64 takes more than 315 bytes. Assumes nothing.
-use Prim.Native.Nat.{ℕ, zero, suc, _+_, _*_, _/_, _%_, _^_, _≤_, _<_, zero-le}
-use mathlib.Core.Path.{_≡_, sym, subst}
-use mathlib.Core.Bool.{Bool, true, _&&_}
+-- How long the text of a flow is. Assumes nothing.
+use Prim.Native.Nat.{_+_, _≤_}
+use mathlib.Core.Path.{_≡_}
+use mathlib.Core.Bool.{true}
 use mathlib.Core.List.{_∷_}
-use native.Mathlib.Nat.{zero-mul, lt-of-le-of-lt, le-of-lt, le-of-eq, le-trans, div-le-of-le-mul}
 use native.Mathlib.Omega.{arith}
-use lib.Dec.{T, leb, ltb, eqb, ltb→lt, lit<}
-use lib.IntN.{ℤ, natAbs}
+use lib.Dec.{T}
 use lib.ListN.{length, length-append}
-use lib.Ieee.{Float, nan, inf, fin, up, down, binary64, fits}
-use lib.Ieee.Fits.{down-pos, and-r}
-use lib.Ieee.Nearest.{closest-mono}
+use lib.Ieee.{binary64, fits}
 use lib.Ieee.Scale.{finite}
-use Rattle.rounding.specs.Close.{signed}
-use Rattle.rounding.proofs.Integers.{signed-parts}
-use Rattle.text.specs.Writing.{decimalText}
-use Rattle.text.proofs.Digits.{decimal-within}
 use Rattle.calendar.specs.Dates.{isDate}
-use Rattle.cash_amount.specs.Amounts.{currencyText}
-use Rattle.cash_amount.specs.declared.Currency.{Currency}
 use Rattle.cash_flow.specs.declared.CashFlow.{CashFlow}
-use Rattle.decimal.specs.Decimal.{isMinus, tenThousandths, decimalText16}
-use Rattle.decimal.proofs.Halves.{closest-whole}
-use Rattle.decimal.proofs.Texts.{signed-long, four-long, sign-short}
 use Rattle.date_text.specs.DateTexts.{dateText}
 use Rattle.date_text.proofs.Dates.{date-long}
-use Rattle.date_text.specs.DateTexts.{dateText}
-use Rattle.cash_flow_text.specs.Texts.{amountText, flowText}
-
--- ---- a finite f64 is at most 2 ^ 1024, whose decimal has 309 digits
-
-size-most : (s : Bool) (m : ℕ) (e : ℤ) → T (fits binary64 (fin s m e)) → m * up e ≤ 2 ^ 1024 * down e
-unfolding fits
-size-most s zero e h = rw (zero-mul) zero-le
-size-most s (suc m) e h =
-    le-of-lt (ltb→lt (suc m * up e) (2 ^ 1024 * down e) (and-r (eqb (suc m % 2) 1 && ltb (suc m) (2 ^ 53) && leb (down e) (2 ^ 1074)) _ h))
-
-in-tens : (a p d : ℕ) → a ≤ p * d → a * 10000 * 1 ≤ 10000 * p * d
-in-tens a p d h = omega arith
-
-tens-most : (x : Float) → T (fits binary64 x) → finite x ≡ true → tenThousandths x ≤ 10000 * 2 ^ 1024
-unfolding tenThousandths
-tens-most nan h f = absurd (subst T (sym f) tt)
-tens-most (inf s) h f = absurd (subst T (sym f) tt)
-tens-most (fin s m e) h f =
-    le-trans
-    (closest-mono (natAbs (signed s (m * up e)) * 10000) (down e) (10000 * 2 ^ 1024) 1 (down-pos e) (omega arith) (rw (signed-parts s (m * up e) .2) (in-tens (m * up e) (2 ^ 1024) (down e) (size-most s m e h))))
-    (le-of-eq (closest-whole (10000 * 2 ^ 1024)))
-
-pub decimal-long : (x : Float) → T (fits binary64 x) → finite x ≡ true → length (decimalText16 x) ≤ 315
-unfolding decimalText16
-decimal-long x h f =
-    let t : ℕ = tenThousandths x in
-    let whole : t / 10000 ≤ 2 ^ 1024 = div-le-of-le-mul 10000 (tens-most x h f) in
-    let few : t / 10000 < 10 ^ 309 = lt-of-le-of-lt whole (lit< tt) in
-    let w : length (decimalText (t / 10000)) ≤ 309 = decimal-within 309 (t / 10000) (omega arith) few in
-    omega (arith, signed-long (isMinus x) t, four-long t, sign-short (isMinus x))
-
--- ---- an amount and a flow
-
-pub amount-long : (x : Float) (c : Currency) → length (amountText x c) ≡ length (decimalText16 x) + 4
-unfolding amountText
-amount-long x c = length-append (decimalText16 x) (32 ∷ currencyText c)
+use Rattle.amount_text.specs.AmountTexts.{amountText}
+use Rattle.amount_text.proofs.Lengths.{amount-long, decimal-long}
+use Rattle.cash_flow_text.specs.Texts.{flowText}
 
 pub flow-parts : (f : CashFlow) → length (flowText f) ≡ length (dateText (f .date)) + length (32 ∷ amountText (f .amount) (f .currency))
 unfolding flowText

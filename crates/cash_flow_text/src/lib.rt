@@ -1,4 +1,4 @@
-// Amounts and cash flows as text, as finql's `Display` writes them.
+// Cash flows as text, as finql's `Display` writes them.
 ghost use mathlib.Core.Path.{_≡_};
 ghost use mathlib.Core.Bool.{true};
 ghost use mathlib.Core.List.{_∷_};
@@ -7,33 +7,13 @@ ghost use lib.ListN.{length};
 ghost use lib.Ieee.Scale.{finite};
 ghost use Rattle.text.specs.Writing.{Wrote};
 ghost use Rattle.calendar.specs.Dates.{isDate};
-ghost use Rattle.cash_amount.specs.Amounts.{currencyText};
-ghost use Rattle.cash_flow_text.specs.Texts.{amountText, flowText, AmountTakes, FlowTakes, AmountWrites, FlowWrites};
+ghost use Rattle.amount_text.specs.AmountTexts.{amountText};
+ghost use Rattle.cash_flow_text.specs.Texts.{flowText, FlowTakes, FlowWrites};
+pub use amount_text::amount_length;
+pub use amount_text::write_amount;
 use cash_amount::Currency;
 use cash_flow::CashFlow;
 use text::LengthAnswer;
-
-// A blank and three letters.
-const CURRENCY_LENGTH: usize = 4;
-
-// A blank and the currency.
-fn put_currency(c: Currency, out: &mut [u8], at: usize) -> usize
-    requires { ⌜ at + 4 ≤ length (now out) ⌝ }
-    ensures { λ r. ⌜ Wrote (now (out .entry)) (now (out .exit)) at (32 ∷ currencyText c) r ⌝ }
-{
-    let letters = [b' ', c.first, c.second, c.third];
-    text::put_bytes(&letters, out, at)
-}
-
-// Inner: the caller has seen that x is finite and that there is room. The amount and its currency.
-pub fn put_amount_at(x: f64, currency: Currency, out: &mut [u8], at: usize) -> usize
-    requires { ⌜ finite x ≡ true ⌝ }
-    requires { ⌜ at + length (amountText x currency) ≤ length (now out) ⌝ }
-    ensures { λ r. ⌜ Wrote (now (out .entry)) (now (out .exit)) at (amountText x currency) r ⌝ }
-{
-    let next = decimal::put_decimal_at(x, out, at);
-    put_currency(currency, out, next)
-}
 
 // A blank and the amount.
 fn put_behind(x: f64, currency: Currency, out: &mut [u8], at: usize) -> usize
@@ -42,7 +22,7 @@ fn put_behind(x: f64, currency: Currency, out: &mut [u8], at: usize) -> usize
     ensures { λ r. ⌜ Wrote (now (out .entry)) (now (out .exit)) at (32 ∷ amountText x currency) r ⌝ }
 {
     out[at] = b' ';
-    put_amount_at(x, currency, out, at + 1)
+    amount_text::put_amount_at(x, currency, out, at + 1)
 }
 
 // Inner: the caller has seen that the amount is finite, that the date exists and that there is room.
@@ -55,46 +35,16 @@ pub fn put_cash_flow_at(flow: CashFlow, out: &mut [u8], at: usize) -> usize
     put_behind(flow.amount, flow.currency, out, next)
 }
 
-// How many bytes an amount and its currency take.
-pub fn amount_length(x: f64, currency: Currency) -> LengthAnswer
-    ensures { λ r. ⌜ AmountTakes x currency r ⌝ }
-{
-    match decimal::decimal_length(x) {
-        LengthAnswer::Length(k) => {
-            if !cash_amount::is_currency(currency) {
-                return LengthAnswer::Refused(paper::BAD_CURRENCY);
-            }
-            LengthAnswer::Length(k + CURRENCY_LENGTH)
-        }
-        LengthAnswer::Refused(n) => LengthAnswer::Refused(n),
-    }
-}
-
 // How many bytes a flow takes.
 pub fn cash_flow_length(flow: CashFlow) -> LengthAnswer
     ensures { λ r. ⌜ FlowTakes flow r ⌝ }
 {
-    match amount_length(flow.amount, flow.currency) {
+    match amount_text::amount_length(flow.amount, flow.currency) {
         LengthAnswer::Length(k) => {
             if !calendar::is_date(flow.date) {
                 return LengthAnswer::Refused(paper::INVALID_DATE);
             }
             LengthAnswer::Length(date_text::DATE_LENGTH + 1 + k)
-        }
-        LengthAnswer::Refused(n) => LengthAnswer::Refused(n),
-    }
-}
-
-// What `Display` of a `CashAmount` writes.
-pub fn write_amount(x: f64, currency: Currency, out: &mut [u8]) -> LengthAnswer
-    ensures { λ r. ⌜ AmountWrites x currency (now (out .entry)) (now (out .exit)) r ⌝ }
-{
-    match amount_length(x, currency) {
-        LengthAnswer::Length(k) => {
-            if out.len() < k {
-                return LengthAnswer::Refused(paper::TOO_FEW_PLACES);
-            }
-            LengthAnswer::Length(put_amount_at(x, currency, out, 0))
         }
         LengthAnswer::Refused(n) => LengthAnswer::Refused(n),
     }

@@ -13,8 +13,8 @@ use Rattle.paper.proofs.Outcomes.{both-true, unless-given, given-injective}
 use Rattle.reading.specs.Reading.{isDigit, allDigits}
 use Rattle.text.specs.Writing.{paddedText}
 use Rattle.reading.proofs.Decimals.{digit-bounds}
-use Rattle.text.proofs.Digits.{length-padded, places-least, digits-all}
-use Rattle.text.proofs.RoundTrips.{padded-back}
+use Rattle.text_lengths.proofs.Digits.{length-padded, places-least, digits-all}
+use Rattle.text_lengths.proofs.RoundTrips.{padded-back}
 use Rattle.gregorian.specs.Gregorian.{monthLength}
 use Rattle.coupon_text.specs.CouponTexts.{isBlank, trimStart, before, trimEnd, trimmed, hasDot, upToDot, afterDot, monthPart, dayPart, couponText, couponDateText}
 use Rattle.coupon_date.specs.Coupons.{couponDate}

@@ -124,8 +124,8 @@ pub fn days_later(t: Date, n: i64) -> DateAnswer
     requires { ⌜ (isDate t ≡ true) × (mag n < 17179869184) ⌝ }
     ensures { λ r. ⌜ dateOutcome r ≡ daysLater t n ⌝ }
 {
-    match land(calendar::number_of(t) - 1, n, LAST_DAY_INDEX) {
-        PlaceAnswer::Place(i) => DateAnswer::Date(calendar::date_on(i + 1)),
+    match land(march_years::number_of(t) - 1, n, LAST_DAY_INDEX) {
+        PlaceAnswer::Place(i) => DateAnswer::Date(march_years::date_on(i + 1)),
         PlaceAnswer::Refused(k) => DateAnswer::Refused(k),
     }
 }

@@ -11,7 +11,7 @@ use Rattle.calendar.specs.Dates.{isDate}
 use Rattle.calendar.specs.declared.Date.{Date}
 use Rattle.date_text.specs.DateTexts.{dateText, dateShown, shownBytes}
 use native.Mathlib.Omega.{arith}
-use Rattle.text.proofs.Digits.{length-digits, places-least}
+use Rattle.text_lengths.proofs.Digits.{length-digits, places-least}
 use Rattle.calendar.proofs.Dates.{date-yes}
 use Rattle.gregorian.proofs.Months.{at-most}
 

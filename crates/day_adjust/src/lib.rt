@@ -46,7 +46,7 @@ fn date_near(t: Date, n: u32, at: u32) -> Date
                 day: t.day - back,
             };
         }
-        return calendar::date_on(at);
+        return march_years::date_on(at);
     }
     let day = t.day + (at - n);
     if reaches(t.year, t.month, day) {
@@ -56,14 +56,14 @@ fn date_near(t: Date, n: u32, at: u32) -> Date
             day,
         };
     }
-    calendar::date_on(at)
+    march_years::date_on(at)
 }
 
 fn next_date(t: Date, n: u32, table: &[u32], i: usize) -> DateAnswer
     requires { ⌜ (isDate t ≡ true) × (n ≡ dayNumber t) × (ascending (now table) ≡ true) × (Splits (now table) n i) ⌝ }
     ensures { λ r. ⌜ dateOutcome r ≡ nextDate (now (table .entry)) n ⌝ }
 {
-    match holidays::next_at(n, table, i) {
+    match business_walks::next_at(n, table, i) {
         DayAnswer::Day(d) => DateAnswer::Date(date_near(t, n, d.0)),
         DayAnswer::Refused(k) => DateAnswer::Refused(k),
     }
@@ -73,7 +73,7 @@ fn prev_date(t: Date, n: u32, table: &[u32], i: usize) -> DateAnswer
     requires { ⌜ (isDate t ≡ true) × (n ≡ dayNumber t) × (ascending (now table) ≡ true) × (Splits (now table) n i) ⌝ }
     ensures { λ r. ⌜ dateOutcome r ≡ prevDate (now (table .entry)) n ⌝ }
 {
-    match holidays::prev_at(n, table, i) {
+    match business_walks::prev_at(n, table, i) {
         DayAnswer::Day(d) => DateAnswer::Date(date_near(t, n, d.0)),
         DayAnswer::Refused(k) => DateAnswer::Refused(k),
     }
@@ -116,7 +116,7 @@ pub fn adjust_at(rule: DayAdjust, t: Date, n: u32, table: &[u32], i: usize) -> D
     requires { ⌜ (isDate t ≡ true) × (n ≡ dayNumber t) × (ascending (now table) ≡ true) × (Splits (now table) n i) ⌝ }
     ensures { λ r. ⌜ dateOutcome r ≡ adjusted rule t (now (table .entry)) ⌝ }
 {
-    if holidays::business_at(n, table, i) {
+    if business_walks::business_at(n, table, i) {
         return DateAnswer::Date(t);
     }
     moved_date(rule, t, n, table, i)
@@ -129,12 +129,12 @@ pub fn adjust_date(rule: DayAdjust, t: Date, table: &[u32]) -> DateAnswer
     if !calendar::is_date(t) {
         return DateAnswer::Refused(paper::INVALID_DATE);
     }
-    let n = calendar::number_of(t);
+    let n = march_years::number_of(t);
     let i = holidays::place_in(table, n);
     if holidays::NOWHERE <= i {
         return DateAnswer::Refused(paper::BAD_HOLIDAY_TABLE);
     }
-    if holidays::business_at(n, table, i) {
+    if business_walks::business_at(n, table, i) {
         return DateAnswer::Date(t);
     }
     moved_date(rule, t, n, table, i)

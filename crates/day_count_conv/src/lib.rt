@@ -1,4 +1,4 @@
-// Day count conventions: the year fraction between two dates, by six rules.
+// Day count conventions: the six rules of a year fraction; here ICMA, and the refusal that 30/360 and 30E/360 share.
 ghost use mathlib.Core.Path.{_≡_};
 ghost use mathlib.Core.Bool.{true, not};
 ghost use Rattle.paper.specs.Outcome.{given, unless};
@@ -6,9 +6,8 @@ ghost use Prim.Native.Nat.{_≤_};
 ghost use Rattle.calendar.specs.Dates.{isDate, dayNumber};
 ghost use Rattle.day_fraction.specs.Fractions.{Span, impossible};
 ghost use Rattle.day_fraction.specs.declared.SimpleRule.the-variants as simple;
-ghost use Rattle.icma.specs.Walk.{step};
 ghost use Rattle.day_count_conv.specs.Whole.{wholePeriod};
-ghost use Rattle.day_count_conv.specs.Conventions.{fractionOutcome, inBits, none, rolledFrom, partAdded, partsBits, walkedFraction, frequentFraction, icmaFraction, rollDateExists, byRule, rollDated, FractionPromise};
+ghost use Rattle.day_count_conv.specs.Conventions.{fractionOutcome, inBits, partAdded, partsBits, walkedFraction, frequentFraction, icmaFraction, rollDateExists};
 use calendar::Date;
 use icma::Broken;
 use icma::Parts;
@@ -52,8 +51,8 @@ pub enum ConventionAnswer {
     Refused(u32),
 }
 
-// A fraction by 30/360 or 30E/360, unless it is 0 on two different dates.
-fn possible(start: Date, end: Date, fraction: f64) -> YearFraction
+// Inner: a fraction by 30/360 or 30E/360, unless it is 0 on two different dates.
+pub fn possible(start: Date, end: Date, fraction: f64) -> YearFraction
     requires { ⌜ Span start end ⌝ }
     ensures { λ r. ⌜ fractionOutcome r ≡ unless (not (impossible simple.D30_360 start end)) 9 (given fraction) ⌝ }
     ensures { λ r. ⌜ fractionOutcome r ≡ unless (not (impossible simple.D30E360 start end)) 9 (given fraction) ⌝ }
@@ -104,13 +103,14 @@ fn frequent(p: TimePeriod, start: Date, end: Date, roll: Date) -> YearFraction
     requires { ⌜ (isDate start ≡ true) × (isDate end ≡ true) × (dayNumber start ≤ dayNumber end) × (isDate roll ≡ true) ⌝ }
     ensures { λ r. ⌜ fractionOutcome r ≡ frequentFraction inBits p start end roll ⌝ }
 {
-    match time_period::frequency(p) {
+    match period_frequency::frequency(p) {
         FrequencyAnswer::Frequency(f) => walked(p, start, end, roll, f),
         FrequencyAnswer::Refused(k) => YearFraction::Refused(k),
     }
 }
 
-fn act_act_icma(x: Extras, start: Date, end: Date) -> YearFraction
+// Inner: by ICMA alone, of dates already judged.
+pub fn act_act_icma(x: Extras, start: Date, end: Date) -> YearFraction
     requires { ⌜ (isDate start ≡ true) × (isDate end ≡ true) × (dayNumber start ≤ dayNumber end) × (rollDateExists (x .roll) ≡ true) ⌝ }
     ensures { λ r. ⌜ fractionOutcome r ≡ icmaFraction inBits (x .roll) (x .period) start end ⌝ }
 {
@@ -125,29 +125,11 @@ fn act_act_icma(x: Extras, start: Date, end: Date) -> YearFraction
     }
 }
 
-// Inner: of dates already judged, the start not after the end, so that a rollout does not judge its own dates.
-pub fn fraction_judged(rule: DayCountConv, start: Date, end: Date, x: Extras) -> YearFraction
-    requires { ⌜ (Span start end) × (rollDated rule (x .roll) ≡ true) ⌝ }
-    ensures { λ r. ⌜ fractionOutcome r ≡ byRule inBits rule start end x ⌝ }
-{
-    match rule {
-        DayCountConv::Act365 => YearFraction::Fraction(day_fraction::calc_act_365(start, end)),
-        DayCountConv::Act360 => YearFraction::Fraction(day_fraction::calc_act_360(start, end)),
-        DayCountConv::Act365l => YearFraction::Fraction(day_fraction::calc_act_365_leap(
-            start,
-            end,
-        )),
-        DayCountConv::D30_360 => possible(start, end, day_fraction::calc_30_360(start, end)),
-        DayCountConv::D30E360 => possible(start, end, day_fraction::calc_30_e_360(start, end)),
-        DayCountConv::ActActICMA => act_act_icma(x, start, end),
-    }
-}
-
-// One whole period takes no walk.
-fn whole_period(p: TimePeriod) -> YearFraction
+// Inner: one whole period takes no walk.
+pub fn whole_period(p: TimePeriod) -> YearFraction
     ensures { λ r. ⌜ fractionOutcome r ≡ wholePeriod p ⌝ }
 {
-    match time_period::frequency(p) {
+    match period_frequency::frequency(p) {
         FrequencyAnswer::Frequency(f) => {
             if p.num < 1 {
                 return YearFraction::Refused(paper::PERIOD_BELOW_ONE);
@@ -156,78 +138,5 @@ fn whole_period(p: TimePeriod) -> YearFraction
             YearFraction::Fraction(parts_bits(f, whole))
         }
         FrequencyAnswer::Refused(k) => YearFraction::Refused(k),
-    }
-}
-
-// Inner: of a period from a date to the one that it leads to, rolled from its start, so that a rollout steps once.
-pub fn fraction_of_period(rule: DayCountConv, p: TimePeriod, from: Date, to: Date) -> YearFraction
-    requires { ⌜ (Span from to) × (step p from ≡ given to) ⌝ }
-    ensures { λ r. ⌜ fractionOutcome r ≡ byRule inBits rule from to (rolledFrom from p) ⌝ }
-{
-    if let DayCountConv::ActActICMA = rule {
-        return whole_period(p);
-    }
-    let roll = RollDate::Date(from);
-    let period = RollPeriod::Period(p);
-    fraction_judged(rule, from, to, Extras { roll, period })
-}
-
-// Whether a roll date that is given exists; only ICMA looks at it.
-fn roll_dated(rule: DayCountConv, x: Extras) -> bool
-    ensures { λ r. ⌜ r ≡ rollDated rule (x .roll) ⌝ }
-{
-    let roll_date = x.roll;
-    match rule {
-        DayCountConv::ActActICMA => match roll_date {
-            RollDate::Date(t) => calendar::is_date(t),
-            RollDate::Absent => true,
-        },
-        DayCountConv::Act365 => true,
-        DayCountConv::Act360 => true,
-        DayCountConv::Act365l => true,
-        DayCountConv::D30_360 => true,
-        DayCountConv::D30E360 => true,
-    }
-}
-
-// The year fraction from start to end.
-pub fn year_fraction(rule: DayCountConv, start: Date, end: Date, x: Extras) -> YearFraction
-    ensures { λ r. ⌜ FractionPromise rule start end x r ⌝ }
-{
-    if !calendar::is_date(start) {
-        return YearFraction::Refused(paper::INVALID_DATE);
-    }
-    if !calendar::is_date(end) {
-        return YearFraction::Refused(paper::INVALID_DATE);
-    }
-    if !roll_dated(rule, x) {
-        return YearFraction::Refused(paper::INVALID_DATE);
-    }
-    if calendar::is_before(end, start) {
-        return YearFraction::Refused(paper::START_AFTER_END);
-    }
-    fraction_judged(rule, start, end, x)
-}
-
-// Inner: the same with no roll date and no period, for `exports`. Its one caller takes it in whole, which is why the rules stand here once more.
-pub fn fraction_between(rule: DayCountConv, from: Date, to: Date) -> YearFraction
-    ensures { λ r. ⌜ FractionPromise rule from to none r ⌝ }
-{
-    if !calendar::is_date(from) {
-        return YearFraction::Refused(paper::INVALID_DATE);
-    }
-    if !calendar::is_date(to) {
-        return YearFraction::Refused(paper::INVALID_DATE);
-    }
-    if calendar::is_before(to, from) {
-        return YearFraction::Refused(paper::START_AFTER_END);
-    }
-    match rule {
-        DayCountConv::Act365 => YearFraction::Fraction(day_fraction::calc_act_365(from, to)),
-        DayCountConv::Act360 => YearFraction::Fraction(day_fraction::calc_act_360(from, to)),
-        DayCountConv::Act365l => YearFraction::Fraction(day_fraction::calc_act_365_leap(from, to)),
-        DayCountConv::D30_360 => possible(from, to, day_fraction::calc_30_360(from, to)),
-        DayCountConv::D30E360 => possible(from, to, day_fraction::calc_30_e_360(from, to)),
-        DayCountConv::ActActICMA => YearFraction::Refused(paper::ICMA_MISSING_ROLL_DATE),
     }
 }

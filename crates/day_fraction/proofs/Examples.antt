@@ -1,19 +1,22 @@
 -- The desk card's fractions, and cases that a trainee gets wrong, as theorems about the definitions; each f64 by its pattern.
 -- Assumes nothing.
-use Prim.Native.Nat.{ℕ, _+_, _-_, _*_, _^_}
+use Prim.Native.Nat.{ℕ, _+_, _-_, _*_, _/_, _^_, _≤_}
 use native.Mathlib.Nat.{not-le-of-lt}
-use mathlib.Core.Path.{_≡_, refl}
+use mathlib.Core.Path.{_≡_, refl, sym, ap, ap₂, subst}
 use mathlib.Core.Bool.{true, false}
 use lib.IntN.{ℤ, pos}
-use lib.Dec.{lit<}
+use lib.Dec.{lit<, lit≤}
 use lib.Ieee.{Float, binary64, add, sub, div, ofInt, ofBits}
 use Rattle.rounding.specs.Close.{Close}
-use Rattle.gregorian.specs.Gregorian.{leap, lengthIn, monthLength, yearLength, before}
-use Rattle.calendar.specs.Dates.{dayNumber, isSame}
+use Rattle.gregorian.specs.Gregorian.{leap, lengthIn, monthLength, yearLength, before, beforeMonth}
+use Rattle.gregorian.proofs.Years.{by-rule-of-leaps}
+use Rattle.calendar.specs.Dates.{isDate, dayNumber, isSame}
 use Rattle.calendar.specs.declared.Date.{Date}
-use Rattle.day_fraction.specs.Exact.{Exact}
-use Rattle.day_fraction.specs.Fractions.{exactFraction, bits, impossible, sinceJanuary}
+use Rattle.calendar.proofs.Dates.{date-yes}
+use Rattle.day_fraction.specs.Exact.{Exact, difference}
+use Rattle.day_fraction.specs.Fractions.{exactFraction, bits, impossible, over, leapYears, leapBits, sinceJanuary}
 use Rattle.day_fraction.specs.declared.SimpleRule.the-variants.{Act365, Act360, Act365l, D30_360, D30E360}
+use Rattle.day_fraction.proofs.Spans.{since-is}
 
 abbrev on : ℕ → ℕ → ℕ → Date
 on y m d = record { year = y; month = m; day = d }
@@ -23,6 +26,14 @@ fraction n d = record { num = n; den = d }
 
 abbrev pattern : ℕ → Float
 pattern n = ofBits binary64 n
+
+-- the days of a date, and those since its 1 January, without a count of each year before it
+number : (y m d : ℕ) → 1 ≤ y → dayNumber (on y m d) ≡ 365 * (y - 1) + (y - 1) / 4 - (y - 1) / 100 + (y - 1) / 400 + beforeMonth y m + d
+unfolding dayNumber
+number y m d h = ap (λ (n : ℕ). n + beforeMonth y m + d) (sym (by-rule-of-leaps y h))
+
+since : (y m d : ℕ) → isDate (on y m d) ≡ true → sinceJanuary (on y m d) ≡ beforeMonth y m + d - 1
+since y m d h = since-is (on y m d) (date-yes (on y m d) h)
 
 -- each of the desk card's by its letter: the exact value, and its f64
 pub record Card : Type 0 where
@@ -38,8 +49,10 @@ pub record Card : Type 0 where
   pub j-bits : bits Act365l (on 2019 7 1) (on 2020 7 1) ≡ pattern 0x3ff0_05a4_4133_587b
 
 pub card : Card
-unfolding leap lengthIn monthLength yearLength before dayNumber isSame sinceJanuary exactFraction bits impossible add sub div ofInt ofBits
+unfolding leap lengthIn monthLength yearLength before isDate isSame exactFraction bits impossible add sub div ofInt ofBits
 card =
+    let s = since 2019 7 1 refl in
+    let e = since 2020 7 1 refl in
     record {
       g = refl;
       g-refused = refl;
@@ -49,8 +62,8 @@ card =
       i-bits = refl;
       i-E = refl;
       i-E-bits = refl;
-      j = refl;
-      j-bits = refl;
+      j = ap₂ (λ (a b : ℕ). leapYears (pos 1) b 366 a 365) s e;
+      j-bits = ap₂ (λ (a b : ℕ). leapBits (pos 1) b 366 a 365) s e;
     }
 
 -- the whole calendar, by each rule: the exact value, and its f64
@@ -67,15 +80,19 @@ pub record Whole : Type 0 where
   pub thirty-E-bits : bits D30E360 (on 1 1 1) (on 9999 12 31) ≡ pattern 0x40c3_877f_a4fa_4fa5
 
 pub whole-calendar : Whole
-unfolding leap lengthIn monthLength yearLength before dayNumber sinceJanuary exactFraction bits add sub div ofInt ofBits
+unfolding leap lengthIn monthLength yearLength before isDate exactFraction bits add sub div ofInt ofBits
 whole-calendar =
+    let first = number 1 1 1 (lit≤ tt) in
+    let last = number 9999 12 31 (lit≤ tt) in
+    let s = since 1 1 1 refl in
+    let e = since 9999 12 31 refl in
     record {
-      act-365 = refl;
-      act-365-bits = refl;
-      act-360 = refl;
-      act-360-bits = refl;
-      act-365-leap = refl;
-      act-365-leap-bits = refl;
+      act-365 = ap₂ (λ (a b : ℕ). fraction (difference b a) 365) first last;
+      act-365-bits = ap₂ (λ (a b : ℕ). over (difference b a) 365) first last;
+      act-360 = ap₂ (λ (a b : ℕ). fraction (difference b a) 360) first last;
+      act-360-bits = ap₂ (λ (a b : ℕ). over (difference b a) 360) first last;
+      act-365-leap = ap₂ (λ (a b : ℕ). leapYears (pos 9998) b 365 a 365) s e;
+      act-365-leap-bits = ap₂ (λ (a b : ℕ). leapBits (pos 9998) b 365 a 365) s e;
       thirty = refl;
       thirty-bits = refl;
       thirty-E = refl;
@@ -109,5 +126,8 @@ slips =
 
 -- two sums may cost almost half of 1 / 2 ^ 38, so no bound of 1 / 2 ^ 40 holds of every rule
 pub not-closer : Close (2 ^ 40) (bits Act365l (on 400 6 19) (on 9996 7 30)) (exactFraction Act365l (on 400 6 19) (on 9996 7 30) .num) (exactFraction Act365l (on 400 6 19) (on 9996 7 30) .den) → ⊥
-unfolding leap lengthIn monthLength yearLength before dayNumber sinceJanuary exactFraction bits add sub div ofInt
-not-closer c = not-le-of-lt (lit< tt) (c .1)
+unfolding leap lengthIn monthLength yearLength before isDate exactFraction bits add sub div ofInt
+not-closer c =
+    let near : ℕ → ℕ → Type 0 = λ a b. Close (2 ^ 40) (leapBits (pos 9596) b 366 a 366) (leapYears (pos 9596) b 366 a 366 .num) (366 * 366) in
+    let d = subst (λ (n : ℕ). near n 211) (since 400 6 19 refl) (subst (near (sinceJanuary (on 400 6 19))) (since 9996 7 30 refl) c) in
+    not-le-of-lt (lit< tt) (d .1)

@@ -23,7 +23,7 @@ fn days_from(start: Date, end: Date) -> u32
     requires { ⌜ Span start end ⌝ }
     ensures { λ r. ⌜ pos r ≡ days start end ⌝ }
 {
-    calendar::number_of(end) - calendar::number_of(start)
+    march_years::number_of(end) - march_years::number_of(start)
 }
 
 // Inner: of two dates that are already judged.

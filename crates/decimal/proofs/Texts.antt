@@ -9,7 +9,7 @@ use lib.Pow.{pow-add, pow-mono, shl-lt}
 use lib.ListN.{length, take, drop, replicate, length-append, length-replicate, length-drop}
 use lib.Seq.{take-all, take-at, drop-at, length-take-le}
 use Rattle.text.specs.Writing.{digits, places, decimalText, signText, rightAligned, Wrote}
-use Rattle.text.proofs.Digits.{length-digits, length-decimal, decimal-within, digits-split, digits-last}
+use Rattle.text_lengths.proofs.Digits.{length-digits, length-decimal, decimal-within, digits-split, digits-last}
 use Rattle.text.proofs.Putting.{wrote-then}
 use Rattle.text.proofs.Writers.{length-aligned, wrote-is}
 use Rattle.decimal.specs.Decimal.{fourDecimals}

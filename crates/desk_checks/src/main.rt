@@ -228,7 +228,7 @@ fn print_row(b: u8) {
 fn ask_day(c: Tally, n: u32, want: u32) -> Tally {
     print_bytes(b"- day ");
     print_number(n as u64);
-    told_date(c, calendar::date_of(Day(n)), want)
+    told_date(c, serial_days::date_of(Day(n)), want)
 }
 
 // A period added, or with '-' subtracted.
@@ -279,7 +279,7 @@ fn ask_between(
     print_date(s);
     print_bytes(b" to ");
     print_date(e);
-    let got = day_count_conv::year_fraction(rule, s, e, x);
+    let got = year_fractions::year_fraction(rule, s, e, x);
     told_amount(c, got, want, number)
 }
 

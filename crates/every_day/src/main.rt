@@ -77,21 +77,21 @@ fn counted_on(c: Count) -> Count {
 }
 
 fn has_weekday(d: Day, weekday: u32) -> bool {
-    match calendar::weekday(d) {
+    match serial_days::weekday(d) {
         WeekdayAnswer::Weekday(w) => w == weekday,
         WeekdayAnswer::Refused(_) => false,
     }
 }
 
 fn has_day(t: Date, n: u32) -> bool {
-    match calendar::day_of(t) {
+    match serial_days::day_of(t) {
         DayAnswer::Day(d) => d.0 == n,
         DayAnswer::Refused(_) => false,
     }
 }
 
 fn has_date(n: u32, t: Date) -> bool {
-    match calendar::date_of(Day(n)) {
+    match serial_days::date_of(Day(n)) {
         DateAnswer::Date(u) => calendar::is_same(t, u),
         DateAnswer::Refused(_) => false,
     }

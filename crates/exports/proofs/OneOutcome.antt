@@ -53,7 +53,7 @@ use Rattle.rates.specs.Rates.{discountFactor, discountedStream}
 use Rattle.rates.proofs.OneOutcome.{factor-numbered, stream-numbered}
 use Rattle.hand_over_plain.specs.HandOver.{HandsOver, passedAs}
 use Rattle.hand_over_plain.proofs.OneOutcome.{one-handed, passed-numbered}
-use Rattle.exports.specs.Numbers.{date, periodOf, adjustmentOf, flatRate, noteOf}
+use Rattle.c_numbers.specs.Numbers.{date, periodOf, adjustmentOf, flatRate, noteOf}
 use Rattle.exports.specs.Rooms.{textIn, decimalShown, flowsIn, listedIn}
 
 -- ---- one outcome, by what is lent: `one-handed` and `one-number` of hand_over for one number and for none

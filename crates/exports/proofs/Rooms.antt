@@ -15,7 +15,7 @@ use Rattle.date_text.specs.DateTexts.{shownBytes}
 use Rattle.packed_write.specs.Writing.{bytesAfter}
 use Rattle.room.specs.Room.{counted, roomAfter}
 use Rattle.cash_flow.specs.declared.CashFlow.{CashFlow}
-use Rattle.rollout.specs.Rollout.{dayOf, amountOf}
+use Rattle.note_flows.specs.NoteFlows.{dayOf, amountOf}
 use Rattle.listed_flows.specs.Listed.{Listed}
 use Rattle.listed_flows.specs.Listed.{ListedContents}
 use Rattle.hand_over_plain.specs.HandOver.{HandsOver, passedAs}

@@ -10,7 +10,7 @@ use Rattle.text.specs.Writing.{writtenLength, writtenBytes}
 use Rattle.decimal.specs.Decimal.{decimalText16}
 use Rattle.room.specs.Room.{roomAfter}
 use Rattle.cash_flow.specs.declared.CashFlow.{CashFlow}
-use Rattle.rollout.specs.Rollout.{dayOf, amountOf}
+use Rattle.note_flows.specs.NoteFlows.{dayOf, amountOf}
 use Rattle.listed_flows.specs.Listed.{Listed}
 use Rattle.hand_over_plain.specs.HandOver.{passedAs}
 

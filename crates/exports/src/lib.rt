@@ -5,7 +5,7 @@ ghost use mathlib.Core.Bool.{true};
 ghost use lib.ListN.{length};
 ghost use Rattle.paper.specs.Outcome.{given, number, andThen};
 ghost use Rattle.calendar.specs.Answers.{dayOf, dateOf, weekdayOf, daysBetween};
-ghost use Rattle.time_period.specs.Periods.{periodOutcome, frequencyOf};
+ghost use Rattle.time_period.specs.Periods.{frequencyOf};
 ghost use Rattle.time_period.specs.Steps.{absent, table};
 ghost use Rattle.period_steps.specs.Added.{addTo, subFrom};
 ghost use Rattle.period_text.specs.PeriodTexts.{periodText};
@@ -18,7 +18,7 @@ ghost use Rattle.day_count_conv.specs.Conventions.{conventionOf, yearFraction, 
 ghost use Rattle.amount_rounding.specs.RoundedAmounts.{round2digitsOf};
 ghost use Rattle.cash_flow.specs.Flows.{sameFlows};
 ghost use Rattle.cash_flow_text.specs.Texts.{flowShown};
-ghost use Rattle.bond.specs.Notes.{noteOutcome, noteChecks};
+ghost use Rattle.bond.specs.Notes.{noteChecks};
 ghost use Rattle.rollout.specs.Rollout.{fitted};
 ghost use Rattle.accrued_interest.specs.Accrued.{accrued};
 ghost use Rattle.accrued_interest.specs.Accrued as interest;
@@ -30,52 +30,24 @@ ghost use Rattle.rates.specs.Rates.{discountFactor, discountedStream};
 ghost use Rattle.listed_rates.specs.Listed.{flowsOf};
 ghost use Rattle.hand_over_plain.specs.HandOver.{HandsOver, passedAs, yesNo};
 ghost use Rattle.hand_over.specs.Coded.{coded};
-ghost use Rattle.exports.specs.Numbers.{serialDay, date, coupon, currency, flow, periodOf, adjustmentOutcome, adjustmentOf, flatRate, noteNumber, noteOf};
+ghost use Rattle.c_numbers.specs.Numbers.{serialDay, date, coupon, currency, flow, periodOf, adjustmentOf, flatRate, noteNumber, noteOf};
 ghost use Rattle.exports.specs.Rooms.{textIn, decimalShown, flowsIn, listedIn};
 use bond::Note;
 use bond::NoteAnswer;
+use c_numbers::AdjustmentAnswer;
 use calendar::Date;
 use calendar::Day;
 use cash_amount::Currency;
 use cash_flow::CashFlow;
 use coupon_date::CouponDate;
-use day_adjust::DayAdjust;
 use day_count_conv::ConventionAnswer;
 use day_count_conv::DayCountConv;
 use day_count_conv::Extras;
 use day_count_conv::RollDate;
 use day_count_conv::RollPeriod;
-use note_limits::NoteNumber;
 use rates::FlatRate;
 use time_period::PeriodAnswer;
 use time_period::TimePeriod;
-use time_period::UnitAnswer;
-
-const LAST_ADJUSTMENT: u32 = 3;
-
-enum AdjustmentAnswer {
-    Adjustment(DayAdjust),
-    Refused(u32),
-}
-
-fn period_of(num: i32, unit: u32) -> PeriodAnswer
-    ensures { λ r. ⌜ periodOutcome r ≡ periodOf num unit ⌝ }
-{
-    match packed_codes::unit_of_code(unit) {
-        UnitAnswer::Unit(u) => PeriodAnswer::Period(TimePeriod { num, unit: u }),
-        UnitAnswer::Refused(n) => PeriodAnswer::Refused(n),
-    }
-}
-
-// A record has two bits for the code, so that only here one can be too large.
-fn adjustment_of(code: u32) -> AdjustmentAnswer
-    ensures { λ r. ⌜ adjustmentOutcome r ≡ adjustmentOf code ⌝ }
-{
-    if LAST_ADJUSTMENT < code {
-        return AdjustmentAnswer::Refused(paper::MALFORMED_RECORD);
-    }
-    AdjustmentAnswer::Adjustment(packed_codes::rule_of_code(code))
-}
 
 fn rolled_from(t: Date, p: TimePeriod) -> Extras
     ensures { λ r. ⌜ r ≡ rolledFrom t p ⌝ }
@@ -100,83 +72,13 @@ fn flat_rate(rate: f64, rule: DayCountConv, c1: u8, c2: u8, c3: u8) -> FlatRate
     }
 }
 
-// The codes are looked up in the order of the arguments.
-fn note_of(
-    number_count: u32,
-    number_digits: u64,
-    issue_year: u32,
-    issue_month: u32,
-    issue_day: u32,
-    maturity_year: u32,
-    maturity_month: u32,
-    maturity_day: u32,
-    coupon_day: u32,
-    coupon_month: u32,
-    period_num: i32,
-    period_unit: u32,
-    rule: u32,
-    adjustment: u32,
-    denomination: u32,
-    rate: f64,
-    c1: u8,
-    c2: u8,
-    c3: u8,
-) -> NoteAnswer
-    ensures { λ r. ⌜ noteOutcome r ≡ noteOf (noteNumber «number_count» «number_digits») (date «issue_year» «issue_month» «issue_day») (date «maturity_year» «maturity_month» «maturity_day») (coupon «coupon_day» «coupon_month») «period_num» «period_unit» rule adjustment denomination rate (currency c1 c2 c3) ⌝ }
-{
-    let number = NoteNumber {
-        count: number_count,
-        digits: number_digits,
-    };
-    let issue_date = Date {
-        year: issue_year,
-        month: issue_month,
-        day: issue_day,
-    };
-    let maturity = Date {
-        year: maturity_year,
-        month: maturity_month,
-        day: maturity_day,
-    };
-    let coupon_date = CouponDate {
-        day: coupon_day,
-        month: coupon_month,
-    };
-    let currency = Currency {
-        first: c1,
-        second: c2,
-        third: c3,
-    };
-    match period_of(period_num, period_unit) {
-        PeriodAnswer::Period(period) => match convention_codes::convention_of(rule) {
-            ConventionAnswer::Convention(c) => match adjustment_of(adjustment) {
-                AdjustmentAnswer::Adjustment(a) => NoteAnswer::Note(Note {
-                    number,
-                    issue_date,
-                    maturity,
-                    coupon_date,
-                    period,
-                    day_count_convention: c,
-                    business_day_rule: a,
-                    denomination,
-                    rate,
-                    currency,
-                }),
-                AdjustmentAnswer::Refused(n) => NoteAnswer::Refused(n),
-            },
-            ConventionAnswer::Refused(n) => NoteAnswer::Refused(n),
-        },
-        PeriodAnswer::Refused(n) => NoteAnswer::Refused(n),
-    }
-}
-
 // The serial day of a date.
 #[no_mangle]
 pub extern "C" fn notes_day_of(year: u32, month: u32, day: u32, serial: &mut u32) -> u32
     ensures { λ r. ⌜ HandsOver (dayOf (date year month day)) r (record { 0 = now (serial .entry) }) (record { 0 = now (serial .exit) }) ⌝ }
 {
     let t = Date { year, month, day };
-    hand_over::hand_day(calendar::day_of(t), serial)
+    hand_over::hand_day(serial_days::day_of(t), serial)
 }
 
 // The date of a serial day.
@@ -184,7 +86,7 @@ pub extern "C" fn notes_day_of(year: u32, month: u32, day: u32, serial: &mut u32
 pub extern "C" fn notes_date_of(serial: u32, year: &mut u32, month: &mut u32, day: &mut u32) -> u32
     ensures { λ r. ⌜ HandsOver (dateOf (serialDay serial)) r (date (now (year .entry)) (now (month .entry)) (now (day .entry))) (date (now (year .exit)) (now (month .exit)) (now (day .exit))) ⌝ }
 {
-    hand_over::hand_date(calendar::date_of(Day(serial)), year, month, day)
+    hand_over::hand_date(serial_days::date_of(Day(serial)), year, month, day)
 }
 
 // The weekday of a serial day: Monday is 1 and Sunday 7.
@@ -192,7 +94,7 @@ pub extern "C" fn notes_date_of(serial: u32, year: &mut u32, month: &mut u32, da
 pub extern "C" fn notes_weekday(serial: u32, weekday: &mut u32) -> u32
     ensures { λ r. ⌜ HandsOver (weekdayOf (serialDay serial)) r (now (weekday .entry)) (now (weekday .exit)) ⌝ }
 {
-    hand_over::hand_weekday(calendar::weekday(Day(serial)), weekday)
+    hand_over::hand_weekday(serial_days::weekday(Day(serial)), weekday)
 }
 
 // The day count from one serial day to another.
@@ -200,7 +102,7 @@ pub extern "C" fn notes_weekday(serial: u32, weekday: &mut u32) -> u32
 pub extern "C" fn notes_days_between(from: u32, to: u32, days: &mut u32) -> u32
     ensures { λ r. ⌜ HandsOver (daysBetween (serialDay from) (serialDay to)) r (record { 0 = now (days .entry) }) (record { 0 = now (days .exit) }) ⌝ }
 {
-    hand_over::hand_days(calendar::days_between(Day(from), Day(to)), days)
+    hand_over::hand_days(serial_days::days_between(Day(from), Day(to)), days)
 }
 
 // A period read from its text.
@@ -216,7 +118,7 @@ pub extern "C" fn notes_read_period(text: &[u8], num: &mut i32, unit: &mut u32) 
 pub extern "C" fn notes_write_period(num: i32, unit: u32, out: &mut [u8], length: &mut usize) -> u32
     ensures { λ r. ⌜ HandsOver (andThen (periodOf num unit) (λ p. textIn (now (out .entry)) (periodText p))) r (now (length .entry), now (out .entry)) (now (length .exit), now (out .exit)) ⌝ }
 {
-    match period_of(num, unit) {
+    match c_numbers::period_of(num, unit) {
         PeriodAnswer::Period(p) => {
             hand_over::hand_length(period_text::write_period(p, out), length)
         }
@@ -229,9 +131,9 @@ pub extern "C" fn notes_write_period(num: i32, unit: u32, out: &mut [u8], length
 pub extern "C" fn notes_frequency(num: i32, unit: u32, per_year: &mut u32) -> u32
     ensures { λ r. ⌜ HandsOver (andThen (periodOf num unit) frequencyOf) r (now («per_year» .entry)) (now («per_year» .exit)) ⌝ }
 {
-    match period_of(num, unit) {
+    match c_numbers::period_of(num, unit) {
         PeriodAnswer::Period(p) => {
-            hand_over::hand_frequency(time_period::frequency(p), per_year)
+            hand_over::hand_frequency(period_frequency::frequency(p), per_year)
         }
         PeriodAnswer::Refused(n) => n,
     }
@@ -251,7 +153,7 @@ pub extern "C" fn notes_add_to(
 ) -> u32
     ensures { λ r. ⌜ HandsOver (andThen (periodOf num unit) (λ p. addTo p absent (date year month day))) r (date (now («to_year» .entry)) (now («to_month» .entry)) (now («to_day» .entry))) (date (now («to_year» .exit)) (now («to_month» .exit)) (now («to_day» .exit))) ⌝ }
 {
-    match period_of(num, unit) {
+    match c_numbers::period_of(num, unit) {
         PeriodAnswer::Period(p) => {
             let t = Date { year, month, day };
             hand_over::hand_date(period_steps::add_to(p, t), to_year, to_month, to_day)
@@ -274,7 +176,7 @@ pub extern "C" fn notes_sub_from(
 ) -> u32
     ensures { λ r. ⌜ HandsOver (andThen (periodOf num unit) (λ p. subFrom p absent (date year month day))) r (date (now («to_year» .entry)) (now («to_month» .entry)) (now («to_day» .entry))) (date (now («to_year» .exit)) (now («to_month» .exit)) (now («to_day» .exit))) ⌝ }
 {
-    match period_of(num, unit) {
+    match c_numbers::period_of(num, unit) {
         PeriodAnswer::Period(p) => {
             let t = Date { year, month, day };
             hand_over::hand_date(period_steps::sub_from(p, t), to_year, to_month, to_day)
@@ -298,7 +200,7 @@ pub extern "C" fn notes_add_to_with(
 ) -> u32
     ensures { λ r. ⌜ HandsOver (andThen (periodOf num unit) (λ p. addTo p (table (now (holidays .entry))) (date year month day))) r (date (now («to_year» .entry)) (now («to_month» .entry)) (now («to_day» .entry))) (date (now («to_year» .exit)) (now («to_month» .exit)) (now («to_day» .exit))) ⌝ }
 {
-    match period_of(num, unit) {
+    match c_numbers::period_of(num, unit) {
         PeriodAnswer::Period(p) => {
             let t = Date { year, month, day };
             let answer = period_steps::add_to_with(p, t, holidays);
@@ -323,7 +225,7 @@ pub extern "C" fn notes_sub_from_with(
 ) -> u32
     ensures { λ r. ⌜ HandsOver (andThen (periodOf num unit) (λ p. subFrom p (table (now (holidays .entry))) (date year month day))) r (date (now («to_year» .entry)) (now («to_month» .entry)) (now («to_day» .entry))) (date (now («to_year» .exit)) (now («to_month» .exit)) (now («to_day» .exit))) ⌝ }
 {
-    match period_of(num, unit) {
+    match c_numbers::period_of(num, unit) {
         PeriodAnswer::Period(p) => {
             let t = Date { year, month, day };
             let answer = period_steps::sub_from_with(p, t, holidays);
@@ -404,7 +306,7 @@ pub extern "C" fn notes_adjust_date(
 ) -> u32
     ensures { λ r. ⌜ HandsOver (andThen (adjustmentOf adjustment) (λ a. adjustDate a (date year month day) (now (holidays .entry)))) r (date (now («to_year» .entry)) (now («to_month» .entry)) (now («to_day» .entry))) (date (now («to_year» .exit)) (now («to_month» .exit)) (now («to_day» .exit))) ⌝ }
 {
-    match adjustment_of(adjustment) {
+    match c_numbers::adjustment_of(adjustment) {
         AdjustmentAnswer::Adjustment(a) => {
             let t = Date { year, month, day };
             let answer = day_adjust::adjust_date(a, t, holidays);
@@ -440,7 +342,7 @@ pub extern "C" fn notes_year_fraction(
                 month: end_month,
                 day: end_day,
             };
-            let answer = day_count_conv::fraction_between(c, start, end);
+            let answer = year_fractions::fraction_between(c, start, end);
             hand_over::hand_fraction(answer, fraction)
         }
         ConventionAnswer::Refused(n) => n,
@@ -467,7 +369,7 @@ pub extern "C" fn notes_year_fraction_rolled(
     ensures { λ r. ⌜ HandsOver (andThen (conventionOf rule) (λ c. andThen (periodOf num unit) (λ p. yearFraction inBits c (date «start_year» «start_month» «start_day») (date «end_year» «end_month» «end_day») (rolledFrom (date «roll_year» «roll_month» «roll_day») p)))) r (now (fraction .entry)) (now (fraction .exit)) ⌝ }
 {
     match convention_codes::convention_of(rule) {
-        ConventionAnswer::Convention(c) => match period_of(num, unit) {
+        ConventionAnswer::Convention(c) => match c_numbers::period_of(num, unit) {
             PeriodAnswer::Period(p) => {
                 let start = Date {
                     year: start_year,
@@ -484,7 +386,7 @@ pub extern "C" fn notes_year_fraction_rolled(
                     month: roll_month,
                     day: roll_day,
                 };
-                let answer = day_count_conv::year_fraction(c, start, end, rolled_from(roll, p));
+                let answer = year_fractions::year_fraction(c, start, end, rolled_from(roll, p));
                 hand_over::hand_fraction(answer, fraction)
             }
             PeriodAnswer::Refused(n) => n,
@@ -618,7 +520,7 @@ pub extern "C" fn notes_check_note(
 ) -> u32
     ensures { λ r. ⌜ r ≡ number (andThen (noteOf (noteNumber «number_count» «number_digits») (date «issue_year» «issue_month» «issue_day») (date «maturity_year» «maturity_month» «maturity_day») (coupon «coupon_day» «coupon_month») «period_num» «period_unit» rule adjustment denomination rate (currency c1 c2 c3)) (noteChecks true true)) ⌝ }
 {
-    match note_of(
+    match c_numbers::note_of(
         number_count,
         number_digits,
         issue_year,
@@ -674,7 +576,7 @@ pub extern "C" fn notes_rollout_flows(
 ) -> u32
     ensures { λ r. ⌜ HandsOver (andThen (noteOf (noteNumber «number_count» «number_digits») (date «issue_year» «issue_month» «issue_day») (date «maturity_year» «maturity_month» «maturity_day») (coupon «coupon_day» «coupon_month») «period_num» «period_unit» rule adjustment denomination rate (currency c1 c2 c3)) (λ note. passedAs (flowsIn (now (days .entry)) (now (amounts .entry))) (fitted note position (now (holidays .entry)) (now (days .entry)) (now (amounts .entry))))) r (now (count .entry), now (days .entry), now (amounts .entry)) (now (count .exit), now (days .exit), now (amounts .exit)) ⌝ }
 {
-    match note_of(
+    match c_numbers::note_of(
         number_count,
         number_digits,
         issue_year,
@@ -732,7 +634,7 @@ pub extern "C" fn notes_accrued_interest(
 ) -> u32
     ensures { λ r. ⌜ HandsOver (andThen (noteOf (noteNumber «number_count» «number_digits») (date «issue_year» «issue_month» «issue_day») (date «maturity_year» «maturity_month» «maturity_day») (coupon «coupon_day» «coupon_month») «period_num» «period_unit» rule adjustment denomination rate (currency c1 c2 c3)) (λ note. accrued interest.inBits note (date year month day))) r (now (amount .entry)) (now (amount .exit)) ⌝ }
 {
-    match note_of(
+    match c_numbers::note_of(
         number_count,
         number_digits,
         issue_year,
@@ -789,7 +691,7 @@ pub extern "C" fn notes_write_note(
 ) -> u32
     ensures { λ r. ⌜ HandsOver (andThen (noteOf (noteNumber «number_count» «number_digits») (date «issue_year» «issue_month» «issue_day») (date «maturity_year» «maturity_month» «maturity_day») (coupon «coupon_day» «coupon_month») «period_num» «period_unit» rule adjustment denomination rate (currency c1 c2 c3)) (λ note. andThen (packedNote note (now (holidays .entry))) (textIn (now (out .entry))))) r (now (length .entry), now (out .entry)) (now (length .exit), now (out .exit)) ⌝ }
 {
-    match note_of(
+    match c_numbers::note_of(
         number_count,
         number_digits,
         issue_year,

@@ -3,7 +3,5 @@ pub mod Counted
 pub mod Places
 pub mod Steps
 pub mod Days
-pub mod Parts
-pub mod Walks
 pub mod OneOutcome
 pub mod Examples

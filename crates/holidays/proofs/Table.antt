@@ -1,19 +1,19 @@
--- The laws of a holiday table: its order, the test that finds it, and which days are listed in it and in a part of it.
+-- The laws of a holiday table: its order, and the test that finds it.
 -- Assumes nothing.
 use Prim.Native.Nat.{ℕ, zero, suc, _+_, _≤_, _<_}
 use mathlib.Core.Path.{_≡_, refl, sym, ap, _∙_}
-use mathlib.Core.Bool.{Bool, true, false, _||_}
+use mathlib.Core.Bool.{Bool, true, false}
 use mathlib.Core.List.{List, [], _∷_}
 use native.Mathlib.Omega.{arith}
 use native.Mathlib.Numerals.{add-one}
-use lib.ListN.{length, getD, take, drop, drop-of-length-le}
-use lib.Dec.{eqb, leb}
+use lib.ListN.{length, getD, drop, drop-of-length-le}
+use lib.Dec.{leb}
 use lib.Seq.{drop-cons}
-use borrow.Author.Tests.{le-leb, lt-leb, leb-true, eq-eqb, ne-eqb}
+use borrow.Author.Tests.{le-leb, lt-leb, leb-true}
 use native.Mathlib.Decide.{decLt}
 use Rattle.paper.specs.Outcome.{both}
 use Rattle.paper.proofs.Outcomes.{both-true}
-use Rattle.holidays.specs.Table.{ascendsFrom, ascending, isTable, listed}
+use Rattle.holidays.specs.Table.{ascendsFrom, ascending, isTable}
 
 -- what an ascending list says of its head and of the rest
 pub ascends-cons : (low d : ℕ) (ds : List ℕ) → ascendsFrom low (d ∷ ds) ≡ true → (low ≤ d) × (d ≤ 3652059) × (ascendsFrom (d + 1) ds ≡ true)
@@ -104,36 +104,3 @@ table-ascends t e = both-true (leb (length t) 4096) (ascending t) e .1
 pub table-most : (t : List ℕ) → isTable t ≡ true → length t ≤ 4096
 unfolding isTable
 table-most t e = leb-true _ _ (both-true (leb (length t) 4096) (ascending t) e .0)
-
--- the day at a place is listed, and a day that stands at none is not
-pub listed-at : (t : List ℕ) (k : ℕ) → k < length t → listed (getD t k 0) t ≡ true
-unfolding listed
-listed-at [] k h = absurd (omega arith)
-listed-at (d ∷ ds) zero h = simp (eq-eqb d d refl)
-listed-at (d ∷ ds) (suc k) h = rw (listed-at ds k (omega arith)) (or-true (eqb (getD ds k 0) d))
-  where
-    or-true : (b : Bool) → (b || true) ≡ true
-    or-true true = refl
-    or-true false = refl
-
-listed-past : (x d : ℕ) (ds : List ℕ) → (d ≡ x → ⊥) → listed x (d ∷ ds) ≡ listed x ds
-unfolding listed
-listed-past x d ds h = simp (ne-eqb x d (λ i. h (sym i)))
-
-pub unlisted : (x : ℕ) (t : List ℕ) → ((k : ℕ) → k < length t → getD t k 0 ≡ x → ⊥) → listed x t ≡ false
-unfolding listed
-unlisted x [] h = refl
-unlisted x (d ∷ ds) h = listed-past x d ds (h 0 (omega arith)) ∙ unlisted x ds (λ k l. h (suc k) (omega arith))
-
--- a part of a table lists what the whole does, but for the days that are cut off
-pub listed-drop : (x : ℕ) (t : List ℕ) (i : ℕ) → ((k : ℕ) → k < i → getD t k 0 ≡ x → ⊥) → listed x (drop i t) ≡ listed x t
-listed-drop x t zero h = refl
-listed-drop x [] (suc i) h = refl
-listed-drop x (d ∷ ds) (suc i) h =
-    listed-drop x ds i (λ k l. h (suc k) (omega arith)) ∙ sym (listed-past x d ds (h 0 (omega arith)))
-
-pub listed-take : (x : ℕ) (t : List ℕ) (i : ℕ) → ((k : ℕ) → i ≤ k → k < length t → getD t k 0 ≡ x → ⊥) → listed x (take i t) ≡ listed x t
-unfolding listed
-listed-take x t zero h = unlisted x [] (λ k l. absurd (omega arith)) ∙ sym (unlisted x t (λ k l. h k (omega arith) l))
-listed-take x [] (suc i) h = refl
-listed-take x (d ∷ ds) (suc i) h = rw (listed-take x ds i (λ k l m. h (suc k) (omega arith) (omega arith)))

@@ -113,9 +113,9 @@ taken-off : (z : ℤ) (a b : ℕ) → ltZ z (pos 0) ≡ true → b + natAbs z �
 taken-off (pos n) a b h e = absurd (omega (arith, ltb-true n 0 h))
 taken-off (negsuc n) a b h e = rw (le-ltb a (suc n) (omega arith)) (ap pos (omega arith))
 
--- as many whole periods as a gap of months has, less one month: they do not fill it
-within : (gap n : ℕ) → 1 ≤ gap → (gap - 1) / n * n < gap
-within gap n h = omega (arith, div-mul-le-self (gap - 1) n)
+-- as many whole periods as the gap from a to b has, less one month: they do not fill it
+within : (a b n : ℕ) → a < b → a + (b - a - 1) / n * n < b
+within a b n h = omega (arith, div-mul-le-self (b - a - 1) n)
 
 fewer : (n j k : ℕ) → j < k → j * n + n ≤ k * n
 fewer n j k h =
@@ -207,7 +207,7 @@ module _ (p : TimePeriod) (limit t : Date) (d : isDate t ≡ true) (dl : isDate 
       by true e false q =
           let l : monthIndex t < monthIndex limit = leb-false (monthIndex limit) (monthIndex t) q in
           let a = both-true _ _ e in
-          leapt-on (a .0) (leb-true (t .day) 28 (a .1)) sign k (omega (arith, within (monthIndex limit - monthIndex t) n (omega arith)))
+          leapt-on (a .0) (leb-true (t .day) 28 (a .1)) sign k (within (monthIndex t) (monthIndex limit) n l)
       by false e c q = still
 
   pub back-the-way : ltZ (p .num) (pos 0) ≡ true → OnTheWay (λ u. isBefore limit u) (turnBack p limit) behind t (leapBack p limit t)
@@ -225,5 +225,5 @@ module _ (p : TimePeriod) (limit t : Date) (d : isDate t ≡ true) (dl : isDate 
       by true e false q =
           let l : monthIndex limit < monthIndex t = leb-false (monthIndex t) (monthIndex limit) q in
           let a = both-true _ _ e in
-          leapt-back (a .0) (leb-true (t .day) 28 (a .1)) sign k (omega (arith, within (monthIndex t - monthIndex limit) n (omega arith)))
+          leapt-back (a .0) (leb-true (t .day) 28 (a .1)) sign k (within (monthIndex limit) (monthIndex t) n l)
       by false e c q = still

@@ -205,7 +205,7 @@ fn gap(later: Date, earlier: Date) -> i32
     requires { ⌜ (isDate later ≡ true) × (isDate earlier ≡ true) ⌝ }
     ensures { λ r. ⌜ r ≡ pos (dayNumber later) -ℤ pos (dayNumber earlier) ⌝ }
 {
-    calendar::number_of(later) as i32 - calendar::number_of(earlier) as i32
+    march_years::number_of(later) as i32 - march_years::number_of(earlier) as i32
 }
 
 // The days from a date to one that is not before it.
@@ -213,7 +213,7 @@ fn length(from: Date, to: Date) -> u32
     requires { ⌜ (isDate from ≡ true) × (isDate to ≡ true) × (dayNumber from ≤ dayNumber to) ⌝ }
     ensures { λ r. ⌜ r ≡ dayNumber to - dayNumber from ⌝ }
 {
-    calendar::number_of(to) - calendar::number_of(from)
+    march_years::number_of(to) - march_years::number_of(from)
 }
 
 fn short_parts(p: TimePeriod, start: Date, end: Date, base: Date) -> PartsAnswer

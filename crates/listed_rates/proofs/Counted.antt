@@ -1,17 +1,17 @@
 -- Under a rule that counts days a flow is valued by its serial day: no date is taken. Assumes nothing.
 use Prim.Native.Nat.{ℕ, _-_, _≤_}
 use mathlib.Core.Path.{_≡_, refl, sym, ap, _∙_}
-use mathlib.Core.Bool.{true}
+use mathlib.Core.Bool.{Bool, true, false}
 use native.Mathlib.Omega.{arith}
 use lib.Dec.{leb}
 use lib.IntN.{ℤ, pos}
 use lib.Ieee.{Float, binary64, add, mul}
 use lib.Ieee.Scale.{finite}
 use borrow.Author.Tests.{leb-true, eqb-true}
-use Rattle.paper.specs.Outcome.{given, both}
+use Rattle.paper.specs.Outcome.{given, both, pick}
 use Rattle.paper.proofs.Outcomes.{both-true}
 use Rattle.calendar.specs.Answers.{dateOf}
-use Rattle.calendar.specs.Dates.{dayNumber, theDate}
+use Rattle.calendar.specs.Dates.{isDate, dayNumber, theDate}
 use Rattle.calendar.specs.declared.Date.{Date}
 use Rattle.calendar.proofs.Dates.{date-yes, date-is, day-is, number-from, number-found, the-date-is}
 use Rattle.cash_amount.specs.Amounts.{isCurrency, isSameCurrency}
@@ -26,7 +26,7 @@ use Rattle.day_count_conv.proofs.Judged.{span-fraction}
 use Rattle.rate_factors.specs.Factors.{factorOf}
 use Rattle.rates.specs.Rates.{fractionTo, isOneCurrency, flowValue, flowAdded}
 use Rattle.rates.specs.declared.FlatRate.{FlatRate}
-use Rattle.listed_rates.specs.Counted.{yearDays, CountedFrom}
+use Rattle.listed_rates.specs.Counted.{yearDays, countedFrom}
 
 same-currency : (a b : Currency) → isSameCurrency a b ≡ true → a ≡ b
 unfolding isSameCurrency
@@ -56,10 +56,22 @@ days-over conv.D30_360 s e h p = absurd (omega arith)
 days-over conv.D30E360 s e h p = absurd (omega arith)
 days-over conv.ActActICMA s e h p = absurd (omega arith)
 
-module _ (rate : FlatRate) (today : Date) (from day : ℕ) (c : CountedFrom rate today from) (h : from ≤ day) (k : day ≤ 3652059) where
+-- a day of the calendar is given only where days are enough, and it is today's
+counted-is : (rate : FlatRate) (today : Date) (from : ℕ) → from ≡ countedFrom rate today → from ≤ 3652059 → (1 ≤ yearDays (rate .«day_count_conv»)) × (isCurrency (rate .currency) ≡ true) × (isDate today ≡ true) × (dayNumber today ≡ from)
+unfolding countedFrom
+counted-is rate today from e h = go _ refl e
+  where
+    go : (b : Bool) → both (leb 1 (yearDays (rate .«day_count_conv»))) (both (isCurrency (rate .currency)) (isDate today)) ≡ b → from ≡ pick b (dayNumber today) 3652060 → (1 ≤ yearDays (rate .«day_count_conv»)) × (isCurrency (rate .currency) ≡ true) × (isDate today ≡ true) × (dayNumber today ≡ from)
+    go true p q =
+        let x = both-true _ _ p in
+        let y = both-true _ _ (x .1) in
+        (leb-true _ _ (x .0), y .0, y .1, sym q)
+    go false p q = absurd (omega arith)
+
+module _ (rate : FlatRate) (today : Date) (from day : ℕ) (c : from ≡ countedFrom rate today) (h : from ≤ day) (k : day ≤ 3652059) where
   fraction-counted : fractionTo (rate .«day_count_conv») today (dateOn day) ≡ given (over (pos (day - from)) (yearDays (rate .«day_count_conv»)))
   fraction-counted =
-      let j = c (omega arith) in
+      let j = counted-is rate today from c (omega arith) in
       let l : 1 ≤ day = omega (arith, number-from today (date-yes today (j .2)), j .3) in
       let n = number-found day l k in
       let s : Span today (theDate day) = record { first = j .2; last = date-is (theDate day) (the-date-is day l k); order = omega (arith, n, j .3) } in
@@ -68,7 +80,7 @@ module _ (rate : FlatRate) (today : Date) (from day : ℕ) (c : CountedFrom rate
 
 -- where a flow passes the tests of days, currency and amount nothing is refused, and this is added
 pub flow-counted : (rate : FlatRate) (today : Date) (sum : Float) (from day : ℕ) (currency : Currency) (amount : Float)
-    → CountedFrom rate today from
+    → from ≡ countedFrom rate today
     → both (leb from day) (both (leb day 3652059) (both (isSameCurrency (rate .currency) currency) (finite amount))) ≡ true
     → flowAdded rate today sum (record { date = dateOn day; currency = currency; amount = amount }) ≡ given (add binary64 sum (mul binary64 (factorOf (rate .rate) (over (pos (day - from)) (yearDays (rate .«day_count_conv»)))) amount))
 unfolding flowAdded flowValue
@@ -78,4 +90,4 @@ flow-counted rate today sum from day currency amount c e =
     let d = both-true _ _ (b .1) in
     let h : from ≤ day = leb-true _ _ (a .0) in
     let k : day ≤ 3652059 = leb-true _ _ (b .0) in
-    rw (d .1, one-currency (rate .currency) currency (c (omega arith) .1) (d .0), fraction-counted rate today from day c h k)
+    rw (d .1, one-currency (rate .currency) currency (counted-is rate today from c (omega arith) .1) (d .0), fraction-counted rate today from day c h k)

@@ -1,7 +1,7 @@
 -- What the inner functions of a listed stream hand each other, so that no date is taken where days are enough; no promise of an entry point rests on this. Assumes nothing.
-use Prim.Native.Nat.{ℕ, _≤_}
-use mathlib.Core.Path.{_≡_}
-use mathlib.Core.Bool.{true}
+use Prim.Native.Nat.{ℕ}
+use lib.Dec.{leb}
+use Rattle.paper.specs.Outcome.{both, pick}
 use Rattle.calendar.specs.Dates.{isDate, dayNumber}
 use Rattle.calendar.specs.declared.Date.{Date}
 use Rattle.cash_amount.specs.Amounts.{isCurrency}
@@ -18,6 +18,7 @@ yearDays conv.D30_360 = 0
 yearDays conv.D30E360 = 0
 yearDays conv.ActActICMA = 0
 
--- if n is a day of the calendar it is today's, the rule counts days, and today and the rate's currency are in order
-abbrev pub CountedFrom : FlatRate → Date → ℕ → Type 0
-CountedFrom rate today n = n ≤ 3652059 → (1 ≤ yearDays (rate .«day_count_conv»)) × (isCurrency (rate .currency) ≡ true) × (isDate today ≡ true) × (dayNumber today ≡ n)
+-- the day from which on days are enough: today's, where the rule counts days and the rate's currency and today are in order; else the day after the calendar's last
+unfoldable pub countedFrom : FlatRate → Date → ℕ
+countedFrom rate today =
+    pick (both (leb 1 (yearDays (rate .«day_count_conv»))) (both (isCurrency (rate .currency)) (isDate today))) (dayNumber today) 3652060

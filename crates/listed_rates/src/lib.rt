@@ -7,7 +7,7 @@ ghost use lib.Ieee.Scale.{finite};
 ghost use Rattle.paper.specs.Outcome.{both};
 ghost use Rattle.cash_amount.specs.Amounts.{isSameCurrency, amountOutcome};
 ghost use Rattle.rates.specs.Rates.{flowAdded};
-ghost use Rattle.listed_rates.specs.Counted.{yearDays, CountedFrom};
+ghost use Rattle.listed_rates.specs.Counted.{yearDays, countedFrom};
 ghost use Rattle.listed_rates.specs.Listed.{currencyAt, flowAt, ListedPromise};
 use calendar::Date;
 use cash_amount::AmountAnswer;
@@ -60,7 +60,7 @@ fn year_days(rule: DayCountConv) -> u32
 
 // The day from which on a flow needs no date: today, judged once for all flows; or none.
 fn counted_from(rate: FlatRate, today: Date) -> u32
-    ensures { λ r. ⌜ CountedFrom rate today r ⌝ }
+    ensures { λ r. ⌜ r ≡ countedFrom rate today ⌝ }
 {
     let rule = rate.day_count_conv;
     if year_days(rule) < 1 {
@@ -72,7 +72,7 @@ fn counted_from(rate: FlatRate, today: Date) -> u32
     if !calendar::is_date(today) {
         return NO_DAY;
     }
-    calendar::number_of(today)
+    march_years::number_of(today)
 }
 
 // Whether nothing of a flow is refused, and its days are enough.
@@ -102,7 +102,7 @@ fn added_at(
     from: u32,
     sum: f64,
 ) -> AmountAnswer
-    requires { ⌜ (i < length (now amounts)) × CountedFrom rate today from ⌝ }
+    requires { ⌜ (i < length (now amounts)) × (from ≡ countedFrom rate today) ⌝ }
     ensures { λ r. ⌜ amountOutcome r ≡ flowAdded rate today sum (flowAt (now (days .entry)) (now (currencies .entry)) (now (amounts .entry)) i) ⌝ }
 {
     let day = entry(days, i);

@@ -15,7 +15,7 @@ use lib.Seq.{drop-cons}
 use Rattle.paper.specs.Outcome.{Outcome, given, refused, andThen, pick}
 use Rattle.paper.proofs.Outcomes.{given-injective, refused-injective, given-not-refused, unless-given, then-given}
 use Rattle.text.specs.Writing.{decimalText, put, Wrote, Written, writtenLength, writtenBytes}
-use Rattle.text.proofs.Digits.{decimal-within}
+use Rattle.text_lengths.proofs.Digits.{decimal-within}
 use Rattle.text.proofs.Writers.{written-fits, written-refused}
 use Rattle.text.proofs.Putting.{put-none, put-put, length-put}
 use Rattle.text.specs.declared.LengthAnswer.the-variants.{Length, Refused}

@@ -21,13 +21,16 @@ use Rattle.cash_flow.specs.declared.CashFlow.{CashFlow}
 use Rattle.cash_flow.specs.declared.FlowsAnswer.{FlowsAnswer}
 use Rattle.cash_flow.specs.declared.FlowsAnswer.the-variants as flows-answer
 use Rattle.bond.specs.declared.Note.{Note}
-use Rattle.rollout.specs.Rollout.{cashFlows, fitted, dayOf, amountOf, RolloutPromise}
-use Rattle.rollout.proofs.Flows.{OfNote, Every, cash-flows-of}
-use Rattle.packed.specs.Tables.{Unpacked, unpacked, noteInBytes, tableCount, tableDays, readInto, countedDays, daysAfter, ReadPromise}
+use Rattle.note_flows.specs.NoteFlows.{dayOf, amountOf}
+use Rattle.rollout.specs.Rollout.{cashFlows, fitted, RolloutPromise}
+use Rattle.note_flows.proofs.Flows.{OfNote, Every}
+use Rattle.rollout.proofs.Passes.{cash-flows-of}
+use Rattle.packed_table.specs.Tables.{tableCount, tableDays}
+use Rattle.packed_table.proofs.Tables.{length-days}
+use Rattle.packed.specs.Tables.{Unpacked, unpacked, noteInBytes, readInto, countedDays, daysAfter, ReadPromise}
 use Rattle.packed.specs.declared.PackedNote.{PackedNote}
 use Rattle.packed.specs.declared.PackedAnswer.{PackedAnswer}
 use Rattle.packed.specs.declared.PackedAnswer.the-variants as packed-answer
-use Rattle.packed.proofs.Tables.{length-days}
 use Rattle.packed.proofs.Reading.{bytes-given, few-days}
 use Rattle.note_listing.specs.Listing.{linesOf, one, noteLines, answerText, refusedText, listing}
 use Rattle.cash_flow.specs.Flows.{dateOn}

@@ -1,3 +1,3 @@
-pub mod Tables
+pub mod Copying
 pub mod Reading
 pub mod OneOutcome

@@ -10,7 +10,8 @@ use Rattle.paper.specs.Outcome.{Numbered}
 use Rattle.paper.proofs.Outcomes.{given-injective, refused-injective, given-not-refused, unless-numbered, then-numbered}
 use Rattle.packed_numbers.specs.Numbers.{rawOf}
 use Rattle.packed_note.proofs.OneOutcome.{note-in-numbered}
-use Rattle.packed.specs.Tables.{isWhole, isTableIn, noteInBytes, unpacked, readInto, packedOutcome, ReadPromise}
+use Rattle.packed_table.specs.Tables.{isWhole, isTableIn}
+use Rattle.packed.specs.Tables.{noteInBytes, unpacked, readInto, packedOutcome, ReadPromise}
 use Rattle.packed.specs.declared.PackedAnswer.{PackedAnswer}
 use Rattle.packed.specs.declared.PackedAnswer.the-variants as packed-answer
 

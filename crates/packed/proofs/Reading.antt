@@ -18,9 +18,10 @@ use Rattle.packed_note.specs.Codes.{numberGood}
 use Rattle.packed_numbers.specs.Numbers.{rawOf}
 use Rattle.packed_note.specs.Records.{noteWith, checkedUnit, noteIn}
 use Rattle.packed_numbers.specs.declared.Raw.{Raw}
-use Rattle.packed.specs.Tables.{tableCount, tableDays, isWhole, isTableIn, noteInBytes, unpacked, readInto, ReadPromise}
+use Rattle.packed_table.specs.Tables.{tableCount, tableDays, isWhole, isTableIn}
+use Rattle.packed_table.proofs.Tables.{length-days}
+use Rattle.packed.specs.Tables.{noteInBytes, unpacked, readInto, ReadPromise}
 use Rattle.packed.specs.declared.PackedAnswer.the-variants as packed-answer
-use Rattle.packed.proofs.Tables.{length-days}
 
 -- ---- a note is given: its bytes are whole, and its table is taken
 

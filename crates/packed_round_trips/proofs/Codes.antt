@@ -14,7 +14,7 @@ use Rattle.day_adjust.specs.declared.DayAdjust.the-variants as rule
 use Rattle.day_count_conv.specs.Conventions.{codeOf, conventionOf}
 use Rattle.day_count_conv.specs.declared.DayCountConv.{DayCountConv}
 use Rattle.packed_codes.specs.Codes.{unitOfCode, ruleOfCode, unitCode}
-use Rattle.packed_write.specs.Codes.{ruleCode}
+use Rattle.packed_raw.specs.Codes.{ruleCode}
 
 pub unit-back : (u : TimePeriodUnit) → unitOfCode (unitCode u) ≡ given u
 unfolding unitOfCode

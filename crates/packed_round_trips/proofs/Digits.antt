@@ -11,8 +11,8 @@ use Rattle.paper.specs.Outcome.{both}
 use Rattle.paper.proofs.Outcomes.{both-true}
 use Rattle.packed_note.specs.Codes.{placeGood, digitsGood, digitsNumber}
 use Rattle.packed_note.proofs.Numbers.{used-place, unused-place}
-use Rattle.packed_write.specs.Codes.{digitsPlaces}
-use Rattle.packed_write.proofs.Codes.{places-none, places-used, places-unused}
+use Rattle.packed_raw.specs.Codes.{digitsPlaces}
+use Rattle.packed_raw.proofs.Codes.{places-none, places-used, places-unused}
 
 -- ---- one place more
 

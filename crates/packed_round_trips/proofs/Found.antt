@@ -10,9 +10,9 @@ use Rattle.bit_fields.specs.Bits.{Field, fieldBits, fieldsBits, bitsOf, field}
 use Rattle.bit_fields.proofs.Bits.{length-field, field-found, field-at}
 use Rattle.packed_numbers.specs.Numbers.{rawOf}
 use Rattle.packed_numbers.specs.declared.Raw.{Raw}
-use Rattle.packed.specs.Tables.{daysFrom}
+use Rattle.packed_table.specs.Tables.{daysFrom}
+use Rattle.packed_raw.specs.Fits.{AllFit}
 use Rattle.packed_write.specs.Fields.{rawFields, dayFields}
-use Rattle.packed_write.specs.Pens.{AllFit}
 use Rattle.packed_write.proofs.Fields.{widths}
 
 -- each field is read from its place on

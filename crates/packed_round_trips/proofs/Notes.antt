@@ -23,10 +23,10 @@ use Rattle.packed_codes.specs.Codes.{unitOfCode}
 use Rattle.packed_note.specs.Codes.{numberGood, digitsGood, digitsNumber}
 use Rattle.packed_note.specs.Records.{noteWith, checkedUnit, noteIn}
 use Rattle.packed_numbers.specs.declared.Raw.{Raw}
-use Rattle.packed_write.specs.Codes.{digitsPlaces}
-use Rattle.packed_write.specs.Fields.{rawWith}
-use Rattle.packed_write.specs.Writing.{Packable}
-use Rattle.packed_write.proofs.Accepted.{capitals, Digits, digits-known, in-twelve, accepted, rate-no-nan}
+use Rattle.packed_raw.specs.Codes.{digitsPlaces}
+use Rattle.packed_raw.specs.Fields.{rawWith}
+use Rattle.packed_raw.specs.Fits.{Packable}
+use Rattle.packed_raw.proofs.Accepted.{capitals, Digits, digits-known, in-twelve, accepted, rate-no-nan}
 use Rattle.packed_round_trips.specs.RoundTrips.{InMachine}
 use Rattle.packed_round_trips.proofs.Digits.{good-places, places-number, number-places}
 use Rattle.packed_round_trips.proofs.Codes.{unit-back, unit-code, rule-back, rule-code, convention-code}

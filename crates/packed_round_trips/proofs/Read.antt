@@ -21,10 +21,12 @@ use Rattle.bond.specs.declared.Note.{Note}
 use Rattle.packed_numbers.specs.Numbers.{rawOf}
 use Rattle.packed_note.specs.Records.{noteIn}
 use Rattle.packed_numbers.specs.declared.Raw.{Raw}
-use Rattle.packed.specs.Tables.{tableCount, tableDays, isWhole, isTableIn, noteInBytes, Unpacked, unpacked}
-use Rattle.packed.proofs.Tables.{whole-long, whole-length, length-days, exact}
+use Rattle.packed_table.specs.Tables.{tableCount, tableDays, isWhole, isTableIn}
+use Rattle.packed_table.proofs.Tables.{whole-long, whole-length, length-days, exact}
+use Rattle.packed.specs.Tables.{noteInBytes, Unpacked, unpacked}
 use Rattle.packed.proofs.Reading.{bytes-given, few-days}
-use Rattle.packed_write.specs.Fields.{rawFields, tableFields, rawWith, zerosBehind, wholeBytes, rawBytes}
+use Rattle.packed_raw.specs.Fields.{rawWith}
+use Rattle.packed_write.specs.Fields.{rawFields, tableFields, zerosBehind, wholeBytes, rawBytes}
 use Rattle.packed_write.specs.Writing.{packedNote}
 use Rattle.packed_write.proofs.Fields.{widths, length-fields, length-record}
 use Rattle.packed_round_trips.proofs.Found.{Found, found-bits, found-both, raw-found, days-found}

@@ -9,7 +9,7 @@ use Rattle.paper.proofs.Outcomes.{given-injective, given-not-refused}
 use Rattle.bit_fields.specs.Bits.{AreBytes}
 use Rattle.bond.specs.declared.Note.{Note}
 use Rattle.packed.specs.Tables.{Unpacked, unpacked}
-use Rattle.packed_write.specs.Fields.{rawWith}
+use Rattle.packed_raw.specs.Fields.{rawWith}
 use Rattle.text.specs.Writing.{writtenLength}
 use Rattle.text.specs.declared.LengthAnswer.the-variants.{Length}
 use Rattle.text.proofs.Writers.{written-text}

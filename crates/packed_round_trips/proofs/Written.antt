@@ -22,13 +22,16 @@ use Rattle.bond.specs.declared.Note.{Note}
 use Rattle.bond.proofs.Ends.{passed}
 use Rattle.packed_numbers.specs.Numbers.{rawOf}
 use Rattle.packed_numbers.specs.declared.Raw.{Raw}
-use Rattle.packed.specs.Tables.{tableCount, daysFrom, tableDays, isWhole, isTableIn, noteInBytes, unpacked}
-use Rattle.packed.proofs.Tables.{exact}
-use Rattle.packed_write.specs.Fields.{numberFields, dateFields, couponFields, termsFields, lettersFields, headFields, middleFields, tailFields, rawFields, dayFields, tableFields, rawWith, zerosBehind, rawBytes, recordBytes}
-use Rattle.packed_write.specs.Pens.{AllFit, RawFits}
-use Rattle.packed_write.specs.Writing.{packedNote, Packable}
+use Rattle.packed_table.specs.Tables.{tableCount, daysFrom, tableDays, isWhole, isTableIn}
+use Rattle.packed_table.proofs.Tables.{exact}
+use Rattle.packed.specs.Tables.{noteInBytes, unpacked}
+use Rattle.packed_raw.specs.Fields.{numberFields, dateFields, couponFields, termsFields, lettersFields, rawWith}
+use Rattle.packed_raw.specs.Fits.{AllFit, RawFits, Packable}
+use Rattle.packed_raw.proofs.Accepted.{raw-fits}
+use Rattle.packed_write.specs.Fields.{headFields, middleFields, tailFields, rawFields, dayFields, tableFields, zerosBehind, rawBytes, recordBytes}
+use Rattle.packed_write.specs.Writing.{packedNote}
 use Rattle.packed_write.proofs.Fields.{fields-are, length-record, whole-bits, whole-bytes, bytes-length}
-use Rattle.packed_write.proofs.Accepted.{raw-fits, table-short}
+use Rattle.packed_write.proofs.Tables.{table-short}
 use Rattle.packed_round_trips.specs.RoundTrips.{InMachine}
 use Rattle.packed_round_trips.proofs.Found.{Found, found-in, found-first, found-later, all-fit, raw-read, days-read}
 use Rattle.packed_round_trips.proofs.Notes.{note-read}

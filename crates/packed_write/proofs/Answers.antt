@@ -5,44 +5,19 @@ use mathlib.Core.Path.{_≡_, refl, sym, ap, _∙_}
 use mathlib.Core.Bool.{Bool, true, false}
 use mathlib.Core.List.{List}
 use borrow.Author.Tests.{lt-leb, le-leb, ltb-true, ltb-false}
-use lib.IntN.{ℤ, pos, negsuc, natAbs}
+use lib.IntN.{ℤ, pos, negsuc}
 use lib.Signed.{leZ, ltZ}
-use lib.Ieee.{binary64, toBits}
 use Rattle.paper.specs.Outcome.{given, refused}
 use Rattle.text.specs.Writing.{Written, lengthOutcome}
 use Rattle.text.specs.declared.LengthAnswer.{LengthAnswer}
 use Rattle.text.specs.declared.LengthAnswer.the-variants as length-answer
 use Rattle.holidays.specs.Table.{isTable}
-use Rattle.day_count_conv.specs.Conventions.{codeOf}
 use Rattle.bond.specs.Notes.{noteChecks}
 use Rattle.bond.specs.declared.Note.{Note}
 use Rattle.bond.proofs.Ends.{passed}
-use Rattle.packed_numbers.specs.declared.Terms.{Terms}
-use Rattle.packed_numbers.specs.declared.Letters.{Letters}
-use Rattle.packed_numbers.specs.declared.Raw.{Raw}
-use Rattle.packed_codes.specs.Codes.{unitCode}
-use Rattle.packed_write.specs.Codes.{ruleCode, digitsPlaces}
-use Rattle.packed_write.specs.Fields.{termsWith, lettersWith, rawWith, recordBytes}
-use Rattle.packed_write.specs.Writing.{packedNote, Packable, WritePromise}
-
--- the terms, each from its code
-pub terms-are : (n : Note) (u m c r : ℕ) → u ≡ unitCode (n .period .unit) → m ≡ natAbs (n .period .num) → c ≡ codeOf (n .«day_count_convention») → r ≡ ruleCode (n .«business_day_rule») → _≡_ {A = Terms} (record { unit = u; number = m; convention = c; adjustment = r }) (termsWith n)
-terms-are n u m c r e f g h = rw (e, f, g, h)
-
--- and the numbers, each from its part
-pub raw-is : (n : Note) (d : ℕ) (t : Terms) (l : Letters) → d ≡ digitsPlaces (n .number .count) 10 (n .number .digits) → t ≡ termsWith n → l ≡ lettersWith (n .currency) → _≡_ {A = Raw} (record {
-  count = n .number .count;
-  digits = d;
-  issue = n .«issue_date»;
-  maturity = n .maturity;
-  coupon = n .«coupon_date»;
-  terms = t;
-  denomination = n .denomination;
-  rate = toBits binary64 (n .rate);
-  letters = l;
-  spare = 0;
-}) (rawWith n)
-raw-is n d t l e f g = rw (e, f, g)
+use Rattle.packed_raw.specs.Fits.{Packable}
+use Rattle.packed_write.specs.Fields.{recordBytes}
+use Rattle.packed_write.specs.Writing.{packedNote, WritePromise}
 
 -- the machine's test of the period
 pub above-twelve : (z : ℤ) → ltZ (pos 4095) z ≡ true → leZ z (pos 4095) ≡ false

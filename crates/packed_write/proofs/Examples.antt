@@ -19,7 +19,7 @@ use Rattle.note_limits.specs.declared.NoteNumber.{NoteNumber}
 use Rattle.bond.proofs.Examples.{every, numbered, listed}
 use Rattle.time_period.specs.declared.TimePeriod.{TimePeriod}
 use Rattle.time_period.specs.declared.TimePeriodUnit.the-variants as unit
-use Rattle.packed_write.specs.Codes.{digitsPlaces}
+use Rattle.packed_raw.specs.Codes.{digitsPlaces}
 use Rattle.packed_write.specs.Fields.{dayFields, wholeBytes, rawBytes, recordBytes}
 use Rattle.packed_write.specs.Writing.{packedNote}
 

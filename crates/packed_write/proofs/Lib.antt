@@ -1,7 +1,6 @@
 pub mod Fields
 pub mod Pens
-pub mod Codes
-pub mod Accepted
+pub mod Tables
 pub mod Answers
 pub mod OneOutcome
 pub mod Examples

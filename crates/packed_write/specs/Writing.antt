@@ -20,10 +20,6 @@ packedNote n table =
     unless (leZ (n .period .num) (pos 4095)) 18
     (andThen (noteChecks true (isTable table) n) (λ m. given (recordBytes m table)))
 
--- a note that is not refused
-abbrev pub Packable : Note → Type 0
-Packable n = (leZ (n .period .num) (pos 4095) ≡ true) × (noteChecks true true n ≡ given n)
-
 -- the lent bytes afterwards: the record in front of what was there, or all that was there
 abbrev pub bytesAfter : List ℕ → Outcome (List ℕ) → List ℕ
 bytesAfter old (given xs) = writtenBytes old xs

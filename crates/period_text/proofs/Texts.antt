@@ -13,9 +13,10 @@ use mir.Val.{SFits}
 use borrow.Author.Tests.{le-leb}
 use Rattle.paper.specs.Outcome.{given}
 use Rattle.text.specs.Writing.{signedText, Written}
-use Rattle.text.proofs.Digits.{places-some, length-decimal}
-use Rattle.text.proofs.Writers.{length-signed, written-text}
-use Rattle.text.proofs.RoundTrips.{signed-back}
+use Rattle.text_lengths.proofs.Digits.{places-some, length-decimal}
+use Rattle.text_lengths.proofs.Signs.{length-signed}
+use Rattle.text.proofs.Writers.{written-text}
+use Rattle.text_lengths.proofs.RoundTrips.{signed-back}
 use Rattle.period_text.specs.PeriodTexts.{unitOf, numberPart, periodOf, letterOf, periodText}
 use Rattle.time_period.specs.declared.TimePeriodUnit.{TimePeriodUnit}
 use Rattle.time_period.specs.declared.TimePeriodUnit.the-variants.{Daily, BusinessDaily, Weekly, Monthly, Annual}

@@ -34,7 +34,7 @@ fn fraction_to(rule: DayCountConv, today: Date, pay_date: Date) -> YearFraction
 {
     let roll = RollDate::Absent;
     let period = RollPeriod::Absent;
-    day_count_conv::year_fraction(rule, today, pay_date, Extras { roll, period })
+    year_fractions::year_fraction(rule, today, pay_date, Extras { roll, period })
 }
 
 // The factor that discounts a payment at `pay_date` to `today`.

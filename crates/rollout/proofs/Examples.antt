@@ -27,7 +27,8 @@ use Rattle.bond.specs.Notes.{isNoteNumber, isRate, isPosition, periodChecks, te
 use Rattle.bond.specs.declared.Note.{Note}
 use Rattle.bond.proofs.Examples.{on, euro}
 use Rattle.bond.proofs.Examples as notes
-use Rattle.rollout.specs.Rollout.{paid, couponFlow, flowsAfter, noteFlows, cashFlows, fitted, dayOf, amountOf}
+use Rattle.note_flows.specs.NoteFlows.{paid, couponFlow, flowsAfter, noteFlows, dayOf, amountOf}
+use Rattle.rollout.specs.Rollout.{cashFlows, fitted}
 
 -- one, twenty and a thousand
 abbrev pub one : Float

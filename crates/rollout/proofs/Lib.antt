@@ -1,5 +1,3 @@
-pub mod Flows
-pub mod Dues
 pub mod Passes
 pub mod OneOutcome
 pub mod Examples

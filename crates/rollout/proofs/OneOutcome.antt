@@ -26,7 +26,8 @@ use Rattle.cash_flow.proofs.OneOutcome.{same-flows-answer}
 use Rattle.bond.specs.Notes.{isPosition, noteChecks, firstCouponEnd, nominalOf, couponAmount}
 use Rattle.bond.specs.declared.Note.{Note}
 use Rattle.bond.proofs.OneOutcome.{checks-numbered, first-end-numbered}
-use Rattle.rollout.specs.Rollout.{paid, couponFlow, followed, flowsAfter, noteFlows, cashFlows, fitted, RolloutPromise}
+use Rattle.note_flows.specs.NoteFlows.{paid, couponFlow, followed, flowsAfter, noteFlows}
+use Rattle.rollout.specs.Rollout.{cashFlows, fitted, RolloutPromise}
 
 -- the answer, the days and the amounts
 pub one-rollout : (n : Note) (position : Float) (table days : List ℕ) (amounts : List Float) (r s : FlowsAnswer) (d e : List ℕ) (a b : List Float) → RolloutPromise n position table days amounts r d a → RolloutPromise n position table days amounts s e b → (r ≡ s) × (d ≡ e) × (a ≡ b)

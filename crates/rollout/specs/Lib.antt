@@ -1,2 +1,1 @@
 pub mod Rollout
-pub mod Turns

@@ -1,54 +1,19 @@
--- A rollout: the flows of a note, one after another.
+-- A rollout: a note that passes its checks, its flows, and the room for them.
 -- Assumes nothing.
-use Prim.Native.Nat.{ℕ, zero, suc, min}
+use Prim.Native.Nat.{ℕ, min}
 use mathlib.Core.Path.{_≡_}
-use mathlib.Core.Bool.{true, false}
-use mathlib.Core.List.{List, [], _∷_}
+use mathlib.Core.List.{List}
 use lib.ListN.{length}
 use lib.Ieee.{Float}
-use Rattle.paper.specs.Outcome.{Outcome, given, refused, andThen}
+use Rattle.paper.specs.Outcome.{Outcome, andThen}
 use Rattle.room.specs.Room.{fitting, counted, roomAfter}
-use Rattle.calendar.specs.Dates.{isBefore, dayNumber}
-use Rattle.calendar.specs.declared.Date.{Date}
 use Rattle.holidays.specs.Table.{isTable}
-use Rattle.day_adjust.specs.Adjustment.{adjusted}
-use Rattle.time_period.specs.Steps.{absent, stepped}
-use Rattle.day_count_conv.specs.Conventions.{inBits, rolledFrom, yearFraction}
 use Rattle.cash_flow.specs.Flows.{flowsOutcome}
 use Rattle.cash_flow.specs.declared.CashFlow.{CashFlow}
 use Rattle.cash_flow.specs.declared.FlowsAnswer.{FlowsAnswer}
-use Rattle.bond.specs.Notes.{isPosition, noteChecks, firstCouponEnd, nominalOf, couponAmount}
+use Rattle.bond.specs.Notes.{isPosition, noteChecks}
 use Rattle.bond.specs.declared.Note.{Note}
-
--- an amount is paid on the adjusted date
-unfoldable pub paid : Note → List ℕ → Date → Float → Outcome CashFlow
-paid n table t x = andThen (adjusted (n .«business_day_rule») t table) (λ u. given (record { date = u; currency = n .currency; amount = x }))
-
--- a coupon from start to end: its fraction, of unadjusted dates, the note's period and a roll date; then its payment date
-unfoldable pub couponFlow : Note → Float → List ℕ → Date → Date → Date → Outcome CashFlow
-couponFlow n position table start end roll =
-    andThen (yearFraction inBits (n .«day_count_convention») start end (rolledFrom roll (n .period)))
-    (λ fraction. paid n table end (couponAmount position n fraction))
-
--- a flow and those behind it: the first refusal ends it
-abbrev pub followed : Outcome CashFlow → Outcome (List CashFlow) → Outcome (List CashFlow)
-followed flow others = andThen flow (λ x. andThen others (λ l. given (x ∷ l)))
-
--- behind a coupon: while its end is before maturity, the next one, which rolls from its start; then the nominal at adjusted maturity.
--- Each ends later than the one before it, and the calendar has 3652059 days
-unfoldable pub flowsAfter : ℕ → Note → Float → List ℕ → Date → Outcome (List CashFlow)
-flowsAfter zero n position table end = refused 1
-flowsAfter (suc left) n position table end =
-    elim (isBefore end (n .maturity)) [
-      | true ↦ andThen (stepped (n .period) absent end) (λ next. followed (couponFlow n position table end next end) (flowsAfter left n position table next))
-      | false ↦ followed (paid n table (n .maturity) (nominalOf position n)) (given [])
-    ]
-
--- coupons, at least one: the first fraction rolls from its end
-unfoldable pub noteFlows : Note → Float → List ℕ → Outcome (List CashFlow)
-noteFlows n position table =
-    andThen (firstCouponEnd n)
-    (λ end. followed (couponFlow n position table (n .«issue_date») end end) (flowsAfter 3652059 n position table end))
+use Rattle.note_flows.specs.NoteFlows.{noteFlows, dayOf, amountOf}
 
 -- the note's checks, then flow by flow
 unfoldable pub cashFlows : Note → Float → List ℕ → Outcome (List CashFlow)
@@ -57,13 +22,6 @@ cashFlows n position table = andThen (noteChecks (isPosition position) (isTable 
 -- last 16: fewer places than flows, in either list
 abbrev pub fitted : Note → Float → List ℕ → List ℕ → List Float → Outcome (List CashFlow)
 fitted n position table days amounts = fitting (min (length days) (length amounts)) (cashFlows n position table)
-
--- the serial day that a flow is paid on, and its amount
-abbrev pub dayOf : CashFlow → ℕ
-dayOf x = dayNumber (x .date)
-
-abbrev pub amountOf : CashFlow → Float
-amountOf x = x .amount
 
 -- what the entry point promises of its answer r and of both lists afterwards
 pub record RolloutPromise (n : Note) (position : Float) (table days : List ℕ) (amounts : List Float) (r : FlowsAnswer) (days′ : List ℕ) (amounts′ : List Float) : Type 0 where

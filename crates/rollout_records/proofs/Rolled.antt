@@ -30,15 +30,18 @@ use Rattle.holidays.specs.Table.{isTable}
 use Rattle.bond.specs.Notes.{isPosition, noteChecks}
 use Rattle.bond.specs.declared.Note.{Note}
 use Rattle.bond.proofs.Ends.{passed}
-use Rattle.rollout.specs.Rollout.{noteFlows, cashFlows, dayOf, amountOf}
-use Rattle.rollout.specs.Turns.{Judged, flowsDue, Dated, Pays, Turned, Kept}
-use Rattle.rollout.specs.declared.Due.{Due}
-use Rattle.rollout.specs.declared.Due.the-variants.{First}
-use Rattle.rollout.specs.declared.Step.{Step}
-use Rattle.rollout.specs.declared.Step.the-variants.{Pay, Stop, End}
-use Rattle.rollout.proofs.Step as S
-use Rattle.rollout.proofs.Flows.{followed-given, judged-note, Every, OfNote, flows-of}
-use Rattle.rollout.proofs.Passes.{flowsOf, all-flows, fits, short, stopped}
+use Rattle.note_flows.specs.NoteFlows.{noteFlows, dayOf, amountOf}
+use Rattle.rollout.specs.Rollout.{cashFlows}
+use Rattle.coupon_dues.specs.Dues.{Dated}
+use Rattle.note_flows.specs.Turns.{Judged, flowsDue, Pays, Turned, Kept}
+use Rattle.coupon_dues.specs.declared.Due.{Due}
+use Rattle.coupon_dues.specs.declared.Due.the-variants.{First}
+use Rattle.note_flows.specs.declared.Step.{Step}
+use Rattle.note_flows.specs.declared.Step.the-variants.{Pay, Stop, End}
+use Rattle.note_flows.proofs.Step as S
+use Rattle.note_flows.proofs.Flows.{followed-given, judged-note, Every, OfNote, flows-of}
+use Rattle.note_flows.proofs.Collecting.{flowsOf}
+use Rattle.rollout.proofs.Passes.{all-flows, fits, short, stopped}
 use Rattle.rollout_records.specs.Records.{recordsFitted, RecordsPromise}
 use Rattle.rollout_records.specs.Steps.{writtenOf, KeptAll, Coming, Came}
 use Rattle.rollout_records.specs.declared.Paid.{Paid}

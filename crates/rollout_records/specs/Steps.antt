@@ -8,9 +8,11 @@ use lib.Ieee.{Float}
 use Rattle.paper.specs.Outcome.{Outcome, given, refused}
 use Rattle.cash_flow.specs.declared.CashFlow.{CashFlow}
 use Rattle.bond.specs.declared.Note.{Note}
-use Rattle.rollout.specs.Rollout.{noteFlows, cashFlows, dayOf, amountOf}
-use Rattle.rollout.specs.Turns.{Judged, flowsDue, Dated}
-use Rattle.rollout.specs.declared.Due.{Due}
+use Rattle.note_flows.specs.NoteFlows.{noteFlows, dayOf, amountOf}
+use Rattle.rollout.specs.Rollout.{cashFlows}
+use Rattle.coupon_dues.specs.Dues.{Dated}
+use Rattle.note_flows.specs.Turns.{Judged, flowsDue}
+use Rattle.coupon_dues.specs.declared.Due.{Due}
 
 -- how many are written: none where it is refused
 abbrev pub writtenOf : Outcome ℕ → ℕ

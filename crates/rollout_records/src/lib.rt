@@ -5,16 +5,16 @@ ghost use Rattle.cash_flow.specs.Flows.{flowsOutcome};
 ghost use Prim.Native.Nat.{_≤_, _<_};
 ghost use lib.ListN.{length};
 ghost use Rattle.calendar.specs.Dates.{theDate};
-ghost use Rattle.rollout.specs.Turns.{Judged};
-ghost use Rattle.rollout.specs.declared.Due.the-variants.{First};
+ghost use Rattle.note_flows.specs.Turns.{Judged};
+ghost use Rattle.coupon_dues.specs.declared.Due.the-variants.{First};
 ghost use Rattle.rollout_records.specs.Records.{recordsFitted, RecordsPromise};
 ghost use Rattle.rollout_records.specs.Steps.{writtenOf, KeptAll, Coming, Came};
 use bond::Note;
 use bond::NoteAnswer;
 use cash_flow::CashFlow;
 use cash_flow::FlowsAnswer;
-use rollout::Due;
-use rollout::Step;
+use coupon_dues::Due;
+use note_flows::Step;
 
 // A flow, and what is due after it.
 struct Paid {
@@ -36,7 +36,7 @@ fn collect_within(
     ensures { λ r. ⌜ flowsOutcome r ≡ counted (recordsFitted note position (now (table .entry)) places) ⌝ }
     ensures { λ _. ⌜ KeptAll note position (now (table .entry)) (now (days .exit)) (now (amounts .exit)) ⌝ }
 {
-    match rollout::collect(note, position, table, days, amounts) {
+    match note_flows::collect(note, position, table, days, amounts) {
         FlowsAnswer::Flows(n) => {
             if places < n {
                 return FlowsAnswer::Refused(paper::TOO_FEW_PLACES);
@@ -97,7 +97,7 @@ fn kept_flow(note: Note, day: u32, amount: f64) -> CashFlow
     requires { ⌜ (1 ≤ day) × (day ≤ 3652059) ⌝ }
     ensures { λ r. ⌜ r ≡ record { date = theDate day; currency = note .currency; amount = amount } ⌝ }
 {
-    let date = calendar::date_on(day);
+    let date = march_years::date_on(day);
     let currency = note.currency;
     CashFlow {
         date,
@@ -125,7 +125,7 @@ fn next_paid(
         let flow = kept_flow(note, days[k], amounts[k]);
         return Paid { flow, next: due };
     }
-    let Step::Pay(_, flow, next) = rollout::turn(note, position, table, due) else {
+    let Step::Pay(_, flow, next) = note_flows::turn(note, position, table, due) else {
         return before;
     };
     Paid { flow, next }

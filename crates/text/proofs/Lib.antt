@@ -1,8 +1,4 @@
-pub mod Signs
-pub mod Digits
 pub mod Putting
 pub mod Writers
-pub mod Shortest
-pub mod RoundTrips
 pub mod OneOutcome
 pub mod Examples

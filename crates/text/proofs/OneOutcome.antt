@@ -2,12 +2,11 @@
 use Prim.Native.Nat.{ℕ}
 use mathlib.Core.Path.{_≡_, sym, ap, _∙_}
 use mathlib.Core.List.{List}
-use lib.IntN.{ℤ, natAbs}
 use Rattle.paper.specs.Outcome.{Outcome}
-use Rattle.paper.proofs.Outcomes.{given-injective, refused-injective, given-not-refused, one-value}
+use Rattle.paper.proofs.Outcomes.{given-injective, refused-injective, given-not-refused}
 use Rattle.text.specs.declared.LengthAnswer.{LengthAnswer}
 use Rattle.text.specs.declared.LengthAnswer.the-variants as length
-use Rattle.text.specs.Writing.{Wrote, Written, lengthOutcome, TakesDecimal, TakesPadded, TakesSigned}
+use Rattle.text.specs.Writing.{Wrote, Written, lengthOutcome}
 
 pub same-length : (r t : LengthAnswer) → lengthOutcome r ≡ lengthOutcome t → r ≡ t
 same-length (length.Length v) (length.Length w) e = ap length.Length (given-injective e)
@@ -25,17 +24,3 @@ one-write d e f xs r t v w = (same-length r t (v .0 ∙ sym (w .0)), v .1 ∙ sy
 
 pub one-wrote : (d e f : List ℕ) (at : ℕ) (xs : List ℕ) (r t : ℕ) → Wrote d e at xs r → Wrote d f at xs t → (e ≡ f) × (r ≡ t)
 one-wrote d e f at xs r t v w = (v .0 ∙ sym (w .0), v .1 ∙ sym (w .1))
-
--- ---- lengths
-
-pub one-decimal-length : (n r t : ℕ) → TakesDecimal n r → TakesDecimal n t → r ≡ t
-one-decimal-length n r t p q = p ∙ sym q
-
-pub one-padded-length : (width n r t : ℕ) → TakesPadded width n r → TakesPadded width n t → r ≡ t
-one-padded-length width n r t p q = p ∙ sym q
-
-pub one-signed-length : (z : ℤ) (r t : ℕ) → TakesSigned z r → TakesSigned z t → r ≡ t
-one-signed-length z r t p q = p ∙ sym q
-
-pub one-magnitude : (n : ℤ) (r s : ℕ) → r ≡ natAbs n → s ≡ natAbs n → r ≡ s
-one-magnitude n r s p q = one-value r s p q

@@ -9,7 +9,7 @@ use native.Mathlib.Omega.{arith}
 use lib.ListN.{length, take, drop, set, getD, replicate, length-append, length-take, length-drop, take-append-drop, length-replicate}
 use lib.Seq.{set-split, drop-cons, take-suc, take-set-le, drop-set-lt, getD-set-same, take-at, drop-at, drop-drop, length-take-le, lt-length-set}
 use Rattle.text.specs.Writing.{digits, put, Wrote}
-use Rattle.text.proofs.Digits.{length-digits, replicate-more}
+use Rattle.text_lengths.proofs.Digits.{length-digits, replicate-more}
 
 -- ---- what `put` is
 

@@ -4,20 +4,18 @@ use Prim.Native.Nat.{ℕ, _+_, _-_, _≤_, _<_, max}
 use mathlib.Core.Path.{_≡_, refl, sym, ap, _∙_}
 use mathlib.Core.List.{List, _++_}
 use mathlib.Core.Logic.{_⊎_, inl, inr}
-use mathlib.Core.Bool.{Bool, true, false}
+use mathlib.Core.Bool.{Bool}
 use native.Mathlib.Omega.{arith}
 use lib.ListN.{length, take, replicate, length-append, length-replicate}
 use lib.IntN.{ℤ, natAbs}
 use lib.Dec.{leb}
-use mir.Syntax.{w32}
-use mir.Val.{SFits}
 use borrow.Author.Tests.{le-leb, lt-leb}
 use Rattle.paper.specs.Outcome.{given, refused, Numbered}
 use Rattle.paper.proofs.Outcomes.{given-injective, given-not-refused, unless-numbered}
 use Rattle.text.specs.Writing.{digits, places, decimalText, paddedText, isNegative, signText, signedText, rightAligned, put, Wrote, writtenLength, writtenBytes, Written}
-use Rattle.text.proofs.Digits.{lt-or-le, places-some, length-decimal, length-padded, decimal-within}
+use Rattle.text_lengths.proofs.Digits.{lt-or-le, places-some, length-decimal, length-padded}
+use Rattle.text_lengths.proofs.Signs.{length-signed}
 use Rattle.text.proofs.Putting.{put-text, wrote-then}
-use Rattle.text.proofs.Signs.{abs-most}
 
 pub written-fits : (d e xs : List ℕ) (r : ℕ) → Wrote d e 0 xs r → length xs ≤ length d → Written d e xs (given r)
 unfolding writtenLength writtenBytes
@@ -61,21 +59,6 @@ unfolding decimalText paddedText
 padded-one n = let e : max 1 (places n) ≡ places n = omega (arith, places-some n) in rw (e)
 
 -- ---- a sign and a decimal: g says whether the number is negative, m is its magnitude
-
-pub length-signed : (z : ℤ) → length (signedText z) ≡ length (signText (isNegative z)) + length (decimalText (natAbs z))
-unfolding signedText
-length-signed z = length-append (signText (isNegative z)) (decimalText (natAbs z))
-
-sign-within : (g : Bool) → length (signText g) ≤ 1
-sign-within true = omega arith
-sign-within false = omega arith
-
--- no text of a signed 32-bit number is longer than 11 bytes
-pub signed-within : (z : ℤ) → SFits w32 z → length (signedText z) ≤ 11
-signed-within z f = omega (arith, length-signed z, sign-within (isNegative z), decimal-within 10 (natAbs z) (omega arith) (omega (arith, abs-most z f)))
-
-pub signed-length-is : (z : ℤ) (g : Bool) (m k : ℕ) → g ≡ isNegative z → m ≡ natAbs z → k ≡ length (decimalText m) → length (signText g) + k ≡ length (signedText z)
-signed-length-is z g m k p q e = rw (e, p, q) (sym (length-signed z))
 
 pub sign-room : (z : ℤ) (g : Bool) (at room : ℕ) → g ≡ isNegative z → at + length (signedText z) ≤ room → at + length (signText g) ≤ room
 sign-room z g at room p h = rw (p) (omega (arith, length-signed z))

@@ -1,11 +1,10 @@
-// Periods, as finql's time_period.rs: their frequency, their inverse, and a step from a date.
+// Periods, as finql's time_period.rs: their inverse, and a step from a date.
 ghost use mathlib.Core.Path.{_≡_};
 ghost use mathlib.Core.Bool.{true};
 ghost use Rattle.paper.specs.Outcome.{andThen};
 ghost use Rattle.calendar.specs.Dates.{isDate};
 ghost use Rattle.calendar.specs.Answers.{dayOutcome, dateOutcome, dateOf};
 ghost use Rattle.holidays.specs.Table.{ascending};
-ghost use Rattle.time_period.specs.Periods.{frequencyOutcome, monthsFrequency, yearsFrequency, FrequencyPromise};
 ghost use Rattle.time_period.specs.Steps.{absent, table, businessStep, stepped, InversePromise};
 use calendar::Date;
 use calendar::DateAnswer;
@@ -40,41 +39,6 @@ pub enum UnitAnswer {
     Refused(u32),
 }
 
-fn months_frequency(n: u32) -> FrequencyAnswer
-    ensures { λ r. ⌜ frequencyOutcome r ≡ monthsFrequency n ⌝ }
-{
-    match n {
-        1 => FrequencyAnswer::Frequency(12),
-        3 => FrequencyAnswer::Frequency(4),
-        6 => FrequencyAnswer::Frequency(2),
-        12 => FrequencyAnswer::Frequency(1),
-        _ => FrequencyAnswer::Refused(paper::NO_FREQUENCY),
-    }
-}
-
-fn years_frequency(n: u32) -> FrequencyAnswer
-    ensures { λ r. ⌜ frequencyOutcome r ≡ yearsFrequency n ⌝ }
-{
-    match n {
-        1 => FrequencyAnswer::Frequency(1),
-        _ => FrequencyAnswer::Refused(paper::NO_FREQUENCY),
-    }
-}
-
-// The frequency per year; signs are ignored.
-pub fn frequency(p: TimePeriod) -> FrequencyAnswer
-    ensures { λ r. ⌜ FrequencyPromise p r ⌝ }
-{
-    let unit = p.unit;
-    match unit {
-        TimePeriodUnit::Daily | TimePeriodUnit::BusinessDaily | TimePeriodUnit::Weekly => {
-            FrequencyAnswer::Refused(paper::NO_FREQUENCY)
-        }
-        TimePeriodUnit::Monthly => months_frequency(text::magnitude(p.num)),
-        TimePeriodUnit::Annual => years_frequency(text::magnitude(p.num)),
-    }
-}
-
 // The period with its number negated; the least number has no negative.
 pub fn inverse(p: TimePeriod) -> PeriodAnswer
     ensures { λ r. ⌜ InversePromise p r ⌝ }
@@ -107,7 +71,7 @@ fn dated(d: DayAnswer) -> DateAnswer
     ensures { λ r. ⌜ dateOutcome r ≡ andThen (dayOutcome d) dateOf ⌝ }
 {
     match d {
-        DayAnswer::Day(day) => calendar::date_of(day),
+        DayAnswer::Day(day) => serial_days::date_of(day),
         DayAnswer::Refused(k) => DateAnswer::Refused(k),
     }
 }
@@ -116,11 +80,11 @@ fn step_business(n: i32, t: Date, holidays: &[u32]) -> DateAnswer
     requires { ⌜ (isDate t ≡ true) × (ascending (now holidays) ≡ true) ⌝ }
     ensures { λ r. ⌜ dateOutcome r ≡ businessStep n (table (now (holidays .entry))) t ⌝ }
 {
-    let day = calendar::number_of(t);
+    let day = march_years::number_of(t);
     if n < 0 {
-        dated(holidays::earlier_from(day, text::magnitude(n), holidays))
+        dated(business_walks::earlier_from(day, text::magnitude(n), holidays))
     } else {
-        dated(holidays::later_from(day, text::magnitude(n), holidays))
+        dated(business_walks::later_from(day, text::magnitude(n), holidays))
     }
 }
 

@@ -6,13 +6,14 @@ use lib.ListN.{length}
 use denote.Struct.Laws as LL
 use Rattle.cash_flow.proofs.CashFlow as T
 use Rattle.cash_flow.proofs.CashFlow.Laws as T′
-use Rattle.cash_flow_text.specs.Texts.{amountShown}
+use Rattle.amount_text.specs.AmountTexts.{amountShown}
 use native.Mathlib.Omega.{arith}
 use borrow.Author.Tests.{not-true, not-false}
 use borrow.Author.Needs.{needs}
 use Rattle.text.specs.Writing.{lengthOutcome}
-use Rattle.cash_flow_text.proofs.Answers.{flow-given, flow-no-date, flow-refused, takes-given, amount-was}
-use Rattle.cash_flow_text.proofs.Lengths.{amount-long, decimal-long}
+use Rattle.amount_text.proofs.Answers.{takes-given, amount-was}
+use Rattle.amount_text.proofs.Lengths.{amount-long, decimal-long}
+use Rattle.cash_flow_text.proofs.Answers.{flow-given, flow-no-date, flow-refused}
 use Rattle.cash_flow_text.proofs.cash_flow_length.Statement.{statement}
 use Rattle.cash_flow_text.proofs.cash_flow_length.Tie as tie
 

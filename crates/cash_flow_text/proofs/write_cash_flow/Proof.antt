@@ -7,7 +7,8 @@ use Rattle.text.specs.Writing.{lengthOutcome}
 use Rattle.text.proofs.Writers.{wrote-is}
 use Rattle.cash_flow_text.specs.Texts.{flowShown}
 use Rattle.date_text.proofs.Dates.{writes-all, writes-short, writes-none}
-use Rattle.cash_flow_text.proofs.Answers.{takes-given, takes-refused, flow-was}
+use Rattle.amount_text.proofs.Answers.{takes-given, takes-refused}
+use Rattle.cash_flow_text.proofs.Answers.{flow-was}
 use Rattle.cash_flow_text.proofs.write_cash_flow.Statement.{statement}
 use Rattle.cash_flow_text.proofs.write_cash_flow.Tie as tie
 

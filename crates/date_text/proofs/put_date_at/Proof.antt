@@ -3,7 +3,7 @@
 use mathlib.Core.Path.{sym}
 use native.Mathlib.Omega.{arith}
 use borrow.Author.Needs.{needs}
-use Rattle.text.proofs.Digits.{length-digits}
+use Rattle.text_lengths.proofs.Digits.{length-digits}
 use Rattle.text.proofs.Putting.{wrote-then}
 use Rattle.text.proofs.Writers.{wrote-is}
 use Rattle.date_text.proofs.Dates.{date-digits, date-long, month-day-long}

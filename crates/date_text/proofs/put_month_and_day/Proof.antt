@@ -2,7 +2,7 @@
 -- Assumes nothing.
 use native.Mathlib.Omega.{arith}
 use borrow.Author.Needs.{needs}
-use Rattle.text.proofs.Digits.{length-digits}
+use Rattle.text_lengths.proofs.Digits.{length-digits}
 use Rattle.text.proofs.Putting.{wrote-then}
 use Rattle.date_text.proofs.put_month_and_day.Statement.{statement}
 use Rattle.date_text.proofs.put_month_and_day.Tie as tie

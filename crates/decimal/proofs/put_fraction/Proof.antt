@@ -4,7 +4,7 @@ use mathlib.Core.Path.{_∙_}
 use native.Mathlib.Omega.{arith}
 use lib.ListN.{length-set}
 use borrow.Author.Needs.{needs}
-use Rattle.text.proofs.Digits.{length-digits}
+use Rattle.text_lengths.proofs.Digits.{length-digits}
 use Rattle.text.proofs.Putting.{wrote-one, wrote-then}
 use Rattle.decimal.proofs.put_fraction.Statement.{statement}
 use Rattle.decimal.proofs.put_fraction.Tie as tie

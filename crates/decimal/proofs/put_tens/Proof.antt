@@ -3,7 +3,7 @@
 use Prim.Native.Nat.{_/_}
 use native.Mathlib.Omega.{arith}
 use borrow.Author.Needs.{needs}
-use Rattle.text.proofs.Digits.{length-digits}
+use Rattle.text_lengths.proofs.Digits.{length-digits}
 use Rattle.text.proofs.Writers.{wrote-is, decimal-digits}
 use Rattle.decimal.proofs.Texts.{four-long, four-wrote}
 use Rattle.decimal.proofs.put_tens.Statement.{statement}

@@ -1,7 +1,7 @@
 -- `exports::notes_write_cash_flow` meets its contract: what the entry point answers, with the room that it wrote, is handed over.
 -- Assumes nothing.
 use Rattle.cash_flow_text.specs.Texts.{flowShown}
-use Rattle.exports.specs.Numbers.{date, currency, flow}
+use Rattle.c_numbers.specs.Numbers.{date, currency, flow}
 use Rattle.exports.proofs.Rooms.{shown-handed}
 use denote.Ref.{now}
 use borrow.Author.Needs.{needs}

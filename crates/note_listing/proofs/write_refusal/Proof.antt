@@ -1,7 +1,7 @@
 -- `note_listing::write_refusal` meets its contract: room for the whole text, or none of it.
 -- Assumes nothing.
 use native.Mathlib.Omega.{arith}
-use Rattle.text.proofs.Digits.{decimal-within}
+use Rattle.text_lengths.proofs.Digits.{decimal-within}
 use Rattle.text.proofs.Writers.{written-fits, written-refused}
 use Rattle.note_listing.specs.Listing.{refusedText}
 use Rattle.note_listing.proofs.Lines.{refusal-long, refusal-short}

@@ -6,7 +6,7 @@ use mathlib.Core.List.{_++_}
 use native.Mathlib.Omega.{arith}
 use denote.Ref.{now}
 use lib.ListN.{length, take, drop}
-use Rattle.packed.proofs.Tables.{copied-length, copied-more, copied-all}
+use Rattle.packed.proofs.Copying.{copied-length, copied-more, copied-all}
 use Rattle.packed.proofs.copy_days.Statement.{statement}
 use Rattle.packed.proofs.copy_days.Tie as tie
 

@@ -7,8 +7,8 @@ use native.Mathlib.Omega.{arith}
 use borrow.Author.Tests.{not-true, not-false}
 use denote.Ref.{now}
 use lib.ListN.{take}
-use Rattle.packed.specs.Tables.{daysFrom, isWhole}
-use Rattle.packed.proofs.Tables.{whole-long}
+use Rattle.packed_table.specs.Tables.{daysFrom, isWhole}
+use Rattle.packed_table.proofs.Tables.{whole-long}
 use Rattle.packed.proofs.Reading.{bytes-short, bytes-whole}
 use borrow.Author.Needs.{needs}
 use Rattle.packed.proofs.note_in_bytes.Statement.{statement}

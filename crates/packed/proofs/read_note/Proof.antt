@@ -7,8 +7,8 @@ use native.Mathlib.Omega.{arith}
 use denote.Ref.{now}
 use Rattle.paper.specs.Outcome.{given}
 use Rattle.bond.specs.Notes.{noteOutcome}
+use Rattle.packed_table.proofs.Tables.{whole-long}
 use Rattle.packed.specs.Tables.{noteInBytes}
-use Rattle.packed.proofs.Tables.{whole-long}
 use Rattle.packed.proofs.Reading.{bytes-given, few-days, reads-refused, reads-short, reads-all}
 use borrow.Author.Needs.{needs}
 use Rattle.packed.proofs.read_note.Statement.{statement}

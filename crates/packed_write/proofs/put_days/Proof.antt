@@ -10,7 +10,7 @@ use lib.ListN.{length, take}
 use Rattle.packed_write.specs.Fields.{dayFields}
 use Rattle.bit_fields.specs.Pens.{Drew}
 use Rattle.packed_write.proofs.Pens.{drew-none, drew-day, all-days}
-use Rattle.packed_write.proofs.Accepted.{day-fits}
+use Rattle.packed_write.proofs.Tables.{day-fits}
 use Rattle.packed_write.proofs.put_days.Statement.{statement}
 use Rattle.packed_write.proofs.put_days.Tie as tie
 

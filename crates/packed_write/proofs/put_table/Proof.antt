@@ -4,7 +4,7 @@ use native.Mathlib.Omega.{arith}
 use borrow.Author.Needs.{needs}
 use denote.Ref.{now}
 use Rattle.packed_write.proofs.Pens.{drew-then}
-use Rattle.packed_write.proofs.Accepted.{table-short}
+use Rattle.packed_write.proofs.Tables.{table-short}
 use Rattle.packed_write.proofs.put_table.Statement.{statement}
 use Rattle.packed_write.proofs.put_table.Tie as tie
 

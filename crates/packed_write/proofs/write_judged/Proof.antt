@@ -6,9 +6,10 @@ use borrow.Author.Needs.{needs}
 use denote.Ref.{now}
 use Rattle.text.proofs.Writers.{written-fits, written-refused, wrote-is}
 use Rattle.packed_numbers.specs.declared.Raw.{Raw}
-use Rattle.packed_write.specs.Fields.{rawWith, rawBytes}
+use Rattle.packed_raw.specs.Fields.{rawWith}
+use Rattle.packed_write.specs.Fields.{rawBytes}
 use Rattle.packed_write.proofs.Fields.{bytes-length}
-use Rattle.packed_write.proofs.Accepted.{table-short}
+use Rattle.packed_write.proofs.Tables.{table-short}
 use Rattle.packed_write.proofs.write_judged.Statement.{statement}
 use Rattle.packed_write.proofs.write_judged.Tie as tie
 

@@ -4,7 +4,8 @@ use native.Mathlib.Omega.{arith}
 use mir.Facts.{toZ-ofZ}
 use borrow.Author.Needs.{needs}
 use Rattle.text.specs.Writing.{TakesSigned}
-use Rattle.text.proofs.Writers.{written-fits, written-refused, signed-within}
+use Rattle.text_lengths.proofs.Signs.{signed-within}
+use Rattle.text.proofs.Writers.{written-fits, written-refused}
 use Rattle.period_text.specs.PeriodTexts.{periodText}
 use Rattle.time_period.proofs.Signs.{told}
 use Rattle.period_text.proofs.Texts.{text-length}

@@ -5,7 +5,7 @@ use native.Mathlib.Omega.{arith}
 use Rattle.paper.specs.Outcome.{given}
 use Rattle.room.specs.Room.{counted}
 use Rattle.cash_flow.specs.Flows.{flowsOutcome}
-use Rattle.rollout.specs.Rollout.{noteFlows}
+use Rattle.note_flows.specs.NoteFlows.{noteFlows}
 use Rattle.rollout.proofs.Passes.{fill-stopped, fill-short, fill-again, fill-copied}
 use borrow.Author.Needs.{needs}
 use Rattle.rollout.proofs.fill.Statement.{statement}

@@ -4,7 +4,7 @@ use mathlib.Core.Path.{_≡_, sym, _∙_, ap}
 use Rattle.paper.specs.Outcome.{given}
 use Rattle.room.specs.Room.{counted}
 use Rattle.cash_flow.specs.Flows.{flowsOutcome}
-use Rattle.rollout.specs.Rollout.{noteFlows}
+use Rattle.note_flows.specs.NoteFlows.{noteFlows}
 use Rattle.rollout_records.proofs.Rolled.{within-short, within-fits, within-stopped, all-kept}
 use borrow.Author.Needs.{needs}
 use Rattle.rollout_records.proofs.collect_within.Statement.{statement}

@@ -1,7 +1,7 @@
 -- `rollout_records::next_paid` meets its contract: a kept flow is the one that was judged, and of more the turn pays.
 -- Assumes nothing.
 use mathlib.Core.Path.{subst}
-use Rattle.rollout.specs.Turns.{Turned}
+use Rattle.note_flows.specs.Turns.{Turned}
 use Rattle.rollout_records.proofs.Rolled.{kept-dated, came-kept, still-dated, must-pay, came-due}
 use borrow.Author.Needs.{needs}
 use Rattle.rollout_records.proofs.next_paid.Statement.{statement}

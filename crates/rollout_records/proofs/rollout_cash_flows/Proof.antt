@@ -60,7 +60,7 @@ use Rattle.cash_flow.specs.declared.CashFlow.{CashFlow}
 use Rattle.cash_flow.specs.declared.FlowsAnswer.{FlowsAnswer}
 use Rattle.room.specs.Room.{counted}
 use Rattle.bond.specs.declared.Note.{Note}
-use Rattle.rollout.specs.declared.Due.the-variants.{First}
+use Rattle.coupon_dues.specs.declared.Due.the-variants.{First}
 use Rattle.rollout_records.specs.Records.{recordsFitted, RecordsPromise}
 use Rattle.rollout_records.specs.Steps.{writtenOf, KeptAll, Came}
 use Rattle.rollout_records.specs.declared.Paid.{Paid}

@@ -4,7 +4,7 @@ use mathlib.Core.Path.{_≡_, refl}
 use native.Mathlib.Omega.{arith}
 use lib.ListN.{length, length-set}
 use Rattle.text.specs.Writing.{digits, put}
-use Rattle.text.proofs.Digits.{length-digits}
+use Rattle.text_lengths.proofs.Digits.{length-digits}
 use Rattle.text.proofs.Putting.{digits-less, digits-end}
 use Rattle.text.proofs.put_digits.Statement.{statement}
 use Rattle.text.proofs.put_digits.Tie as tie

@@ -3,7 +3,7 @@ use native.Mathlib.Omega.{arith}
 use mir.Facts.{toZ-ofZ}
 use mir.Syntax.{w32}
 use borrow.Author.Needs.{needs}
-use Rattle.text.proofs.Signs.{below-flag}
+use Rattle.text_lengths.proofs.Signs.{below-flag}
 use Rattle.text.proofs.Writers.{sign-room, decimal-room, signed-wrote}
 use Rattle.text.proofs.put_signed.Statement.{statement}
 use Rattle.text.proofs.put_signed.Tie as tie

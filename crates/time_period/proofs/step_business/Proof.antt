@@ -5,7 +5,7 @@ use lib.IntN.{natAbs}
 use mir.Facts.{toZ-ofZ}
 use borrow.Author.Needs.{needs}
 use Rattle.paper.specs.Outcome.{Outcome, andThen}
-use Rattle.text.proofs.Signs.{below-flag}
+use Rattle.text_lengths.proofs.Signs.{below-flag}
 use Rattle.calendar.specs.Answers.{dateOf}
 use Rattle.calendar.specs.declared.Day.{Day}
 use Rattle.calendar.proofs.Dates.{date-yes, number-from, number-to}

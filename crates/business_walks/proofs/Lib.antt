@@ -1,0 +1,4 @@
+pub mod Listed
+pub mod Places
+pub mod Parts
+pub mod Walks

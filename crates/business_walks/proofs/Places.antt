@@ -1,0 +1,172 @@
+-- The place in a table that a day splits it at: the parts on its two sides, how it moves with the day, and what it says of the day.
+-- Assumes nothing.
+use Prim.Native.Nat.{ℕ, zero, suc, _+_, _-_, _≤_, _<_, zero-le}
+use mathlib.Core.Path.{_≡_, sym, ap, subst, _∙_}
+use mathlib.Core.Bool.{true, false}
+use mathlib.Core.List.{List, _∷_}
+use native.Mathlib.Omega.{arith}
+use native.Mathlib.Decide.{decLt}
+use lib.ListN.{length, getD, take, drop, length-drop, List·getD-eq-default}
+use lib.Seq.{getD-take, getD-drop, length-take-le}
+use Rattle.holidays.specs.Table.{ascending, listed}
+use Rattle.holidays.specs.Search.{Splits}
+use Rattle.holidays.proofs.Places.{Bracket, bracket-whole, bracket-up}
+use Rattle.business_walks.proofs.Listed.{listed-at, unlisted}
+
+module _ {t : List ℕ} {n i : ℕ} (s : Splits t n i) where
+  -- the part from the place on, and the part up to it
+  pub part-after : Splits (drop i t) n 0
+  part-after = record {
+    sorted = λ p q l h. rw (getD-drop i t p 0, getD-drop i t q 0) (s .sorted (i + p) (i + q) (omega arith) (omega (arith, length-drop i t)));
+    within = zero-le;
+    before = λ k l. absurd (omega arith);
+    after = λ k l h. rw (getD-drop i t k 0) (s .after (i + k) (omega arith) (omega (arith, length-drop i t)));
+  }
+
+  pub part-before : Splits (take i t) n (length (take i t))
+  part-before =
+      let e : length (take i t) ≡ i = length-take-le i t (s .within) in
+      record {
+        sorted = λ p q l h. rw (getD-take i t p 0 (omega arith), getD-take i t q 0 (omega arith)) (s .sorted p q l (omega (arith, s .within)));
+        within = omega arith;
+        before = λ k l. rw (getD-take i t k 0 (omega arith)) (s .before k (omega arith));
+        after = λ k l h. absurd (omega arith);
+      }
+
+  -- a day of which the table lists none between it and the next place is not listed
+  pub skipped : (m : ℕ) → m ≡ n + 1 → Splits t m i → listed n t ≡ false
+  skipped m e u = unlisted n t (λ k l i. by k l i (decLt k _))
+    where
+      by : (k : ℕ) → k < length t → getD t k 0 ≡ n → Dec (k < i) → ⊥
+      by k l f (yes g) = omega (arith, s .before k g)
+      by k l f (no g) = omega (arith, u .after k (omega arith) l)
+
+  -- forwards: the day is the holiday at the place
+  module _ (d : 1 ≤ n) (e : n ≡ getD t i 0) where
+    pub there : i < length t
+    there = by (decLt i (length t))
+      where
+        by : Dec (i < length t) → i < length t
+        by (yes g) = g
+        by (no g) = absurd (omega (arith, List·getD-eq-default t 0 {n = i} (omega arith)))
+
+    pub met : listed n t ≡ true
+    met = subst (λ (x : ℕ). listed x t ≡ true) (sym e) (listed-at t i there)
+
+    pub met-on : Splits t (n + 1) (i + 1)
+    met-on = record {
+      sorted = s .sorted;
+      within = omega (arith, there);
+      before = λ k l. by k l (decLt k i);
+      after = λ k l h. omega (arith, s .sorted i k (omega arith) h);
+    }
+      where
+        by : (k : ℕ) → k < i + 1 → Dec (k < i) → getD t k 0 < n + 1
+        by k l (yes g) = omega (arith, s .before k g)
+        by k l (no g) = let j : k ≡ i = omega arith in omega (arith, ap (λ (x : ℕ). getD t x 0) j)
+
+  -- or it is not
+  pub past-on : (n ≡ getD t i 0 → ⊥) → Splits t (n + 1) i
+  past-on h = record {
+    sorted = s .sorted;
+    within = s .within;
+    before = λ k l. omega (arith, s .before k l);
+    after = λ k l m. by k l m (decLt i k);
+  }
+    where
+      by : (k : ℕ) → i ≤ k → k < length t → Dec (i < k) → n + 1 ≤ getD t k 0
+      by k l m (yes g) = omega (arith, s .after i (omega arith) (omega arith), s .sorted i k g m)
+      by k l m (no g) =
+          let j : i ≡ k = omega arith in
+          let f : n ≡ getD t k 0 → ⊥ = λ e. h (e ∙ ap (λ (x : ℕ). getD t x 0) (sym j)) in
+          omega (arith, s .after k l m, f)
+
+-- backwards: the day before is the holiday before the place
+pub record Met (t : List ℕ) (n i : ℕ) : Type 0 where
+  pub inside : 0 < i
+  pub there : listed (n - 1) t ≡ true
+  pub splits : Splits t (n - 1) (i - 1)
+
+module _ {t : List ℕ} {n : ℕ} where
+  pub met-back : (i : ℕ) → Splits t n i → 1 < n → n - 1 ≡ getD (0 ∷ t) i 0 → Met t n i
+  met-back zero s d e = absurd (omega arith)
+  met-back (suc j) s d e = record {
+    inside = omega arith;
+    there = subst (λ (x : ℕ). listed x t ≡ true) (sym e) (listed-at t j (omega (arith, s .within)));
+    splits = record {
+      sorted = s .sorted;
+      within = omega (arith, s .within);
+      before = λ k l. omega (arith, s .sorted k j (omega arith) (omega (arith, s .within)));
+      after = λ k l m. by k (omega arith) m (decLt j k);
+    };
+  }
+    where
+      by : (k : ℕ) → j ≤ k → k < length t → Dec (j < k) → n - 1 ≤ getD t k 0
+      by k l m (yes g) = omega (arith, s .sorted j k g m)
+      by k l m (no g) = let i : j ≡ k = omega arith in omega (arith, ap (λ (x : ℕ). getD t x 0) i)
+
+  -- or it is not
+  pub past-back : (i : ℕ) → Splits t n i → 1 < n → (n - 1 ≡ getD (0 ∷ t) i 0 → ⊥) → Splits t (n - 1) i
+  past-back zero s d h = record {
+    sorted = s .sorted;
+    within = zero-le;
+    before = λ k l. absurd (omega arith);
+    after = λ k l m. omega (arith, s .after k l m);
+  }
+  past-back (suc j) s d h = record {
+    sorted = s .sorted;
+    within = s .within;
+    before = λ k l. by k l (decLt k j);
+    after = λ k l m. omega (arith, s .after k l m);
+  }
+    where
+      last : getD t j 0 < n - 1
+      last = omega (arith, s .before j (omega arith), h)
+
+      by : (k : ℕ) → k < suc j → Dec (k < j) → getD t k 0 < n - 1
+      by k l (yes g) = omega (arith, last, s .sorted k j g (omega (arith, s .within)))
+      by k l (no g) = let i : k ≡ j = omega arith in omega (arith, last, ap (λ (x : ℕ). getD t x 0) i)
+
+-- a place that is not past the one sought: before it, all is before
+pub bracket-near : (t : List ℕ) (n i : ℕ) → ascending t ≡ true → i ≤ length t → getD (0 ∷ t) i 0 < n → Bracket t n i (length t)
+bracket-near t n zero a w h = bracket-whole t n a
+bracket-near t n (suc i) a w h =
+    let e : i + 1 ≡ suc i = omega arith in
+    rw e at (bracket-up (bracket-whole t n a) i zero-le (omega arith) h)
+
+-- past the end stands a 0, which is no day
+pub placed : (t : List ℕ) (n i : ℕ) → 1 ≤ n → getD t i 0 ≡ n → i < length t
+placed t n i d e = by (decLt i (length t))
+  where
+    by : Dec (i < length t) → i < length t
+    by (yes l) = l
+    by (no l) = absurd (omega (arith, List·getD-eq-default t 0 {n = i} (omega arith)))
+
+-- from the first holiday that is not before a day to the first after it
+module _ {t : List ℕ} {n i : ℕ} (s : Splits t n i) where
+  pub after-listed : i < length t → getD t i 0 ≡ n → Splits t (n + 1) (i + 1)
+  after-listed l e = record {
+    sorted = s .sorted;
+    within = omega arith;
+    before = λ k f. by k f (decLt k i);
+    after = λ k f g. omega (arith, s .sorted i k (omega arith) g);
+  }
+    where
+      by : (k : ℕ) → k < i + 1 → Dec (k < i) → getD t k 0 < n + 1
+      by k f (yes h) = omega (arith, s .before k h)
+      by k f (no h) = let q : k ≡ i = omega arith in rw q (omega arith)
+
+  pub after-unlisted : (getD t i 0 ≡ n → ⊥) → Splits t (n + 1) i
+  after-unlisted d = record {
+    sorted = s .sorted;
+    within = s .within;
+    before = λ k f. omega (arith, s .before k f);
+    after = λ k f g. by k f g (decLt i k);
+  }
+    where
+      by : (k : ℕ) → i ≤ k → k < length t → Dec (i < k) → n + 1 ≤ getD t k 0
+      by k f g (yes h) = omega (arith, s .sorted i k h g, s .after i (omega arith) (omega arith))
+      by k f g (no h) = let q : k ≡ i = omega arith in rw q (let m = s .after i (omega arith) (omega arith) in above (getD t i 0) m d)
+        where
+          above : (x : ℕ) → n ≤ x → (x ≡ n → ⊥) → n + 1 ≤ x
+          above x a b = omega arith

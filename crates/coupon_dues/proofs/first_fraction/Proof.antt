@@ -1,0 +1,17 @@
+-- `coupon_dues::first_fraction` meets its contract: its end, from which it rolls, is a date of the calendar.
+-- Assumes nothing.
+use borrow.Author.Needs.{needs}
+use Rattle.day_count_conv.proofs.Judged.{roll-dated}
+use Rattle.coupon_dues.proofs.first_fraction.Statement.{statement}
+use Rattle.coupon_dues.proofs.first_fraction.Tie as tie
+
+fraction-judged-requires : tie.Need-fraction-judged-requires
+fraction-judged-requires c κs =
+    let s : tie.Start = c .before in
+    (s .pre, roll-dated (s .args .note .«day_count_convention») (s .args .end) (s .pre .last))
+
+returns : tie.Need-returns
+returns c = search needs
+
+pub first-fraction-spec : {M : Type 1} → statement M
+first-fraction-spec = tie.close (tie.spec fraction-judged-requires returns)

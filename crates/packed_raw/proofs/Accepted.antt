@@ -1,0 +1,143 @@
+-- What an accepted note has, so that its numbers fit their bits.
+-- Assumes nothing.
+use Prim.Native.Nat.{ℕ, _-_, _^_, _≤_, _<_}
+use mathlib.Core.Path.{_≡_, refl}
+use mathlib.Core.Bool.{true, not}
+use native.Mathlib.Omega.{arith}
+use borrow.Author.Tests.{leb-true, ltb-true}
+use lib.Dec.{T, leb, ltb}
+use lib.IntN.{ℤ, pos, negsuc, natAbs}
+use lib.Signed.{leZ, ltZ}
+use lib.Ieee.{Float, nan, inf, fin, binary64, fits, isNan}
+use lib.Ieee.Bits.{toBits-lt}
+use Rattle.paper.specs.Outcome.{given, unless, both}
+use Rattle.paper.proofs.Outcomes.{both-true, unless-given}
+use Rattle.gregorian.specs.Gregorian.{monthLength}
+use Rattle.gregorian.proofs.Months.{at-most}
+use Rattle.calendar.specs.Dates.{isDate}
+use Rattle.calendar.specs.declared.Date.{Date}
+use Rattle.calendar.proofs.Dates.{date-yes}
+use Rattle.coupon_date.specs.Coupons.{couponDate}
+use Rattle.coupon_date.specs.declared.CouponDate.{CouponDate}
+use Rattle.cash_amount.specs.Amounts.{isCapital, isCurrency}
+use Rattle.cash_amount.specs.declared.Currency.{Currency}
+use Rattle.time_period.specs.declared.TimePeriodUnit.{TimePeriodUnit}
+use Rattle.time_period.specs.declared.TimePeriodUnit.the-variants as unit
+use Rattle.day_adjust.specs.declared.DayAdjust.{DayAdjust}
+use Rattle.day_adjust.specs.declared.DayAdjust.the-variants as rule
+use Rattle.day_count_conv.specs.Conventions.{codeOf}
+use Rattle.day_count_conv.specs.declared.DayCountConv.{DayCountConv}
+use Rattle.day_count_conv.specs.declared.DayCountConv.the-variants as conv
+use Rattle.note_limits.specs.Limits.{isNoteNumber, isRate}
+use Rattle.bond.specs.declared.Note.{Note}
+use Rattle.note_limits.specs.declared.NoteNumber.{NoteNumber}
+use Rattle.bond.proofs.Ends.{Accepted, passed}
+use Rattle.packed_codes.specs.Codes.{unitCode}
+use Rattle.packed_raw.specs.Codes.{ruleCode}
+use Rattle.packed_raw.specs.Fields.{dateFields, couponFields, lettersFields, lettersWith, rawWith}
+use Rattle.packed_raw.specs.Fits.{AllFit, RawFits, Packable}
+use Rattle.packed_raw.proofs.Codes.{places-below}
+
+-- ---- a rate is no NaN
+
+pub rate-no-nan : (x : Float) → isRate x ≡ true → T (not (isNan x))
+unfolding isRate isNan
+rate-no-nan nan e = absurd (let z : _≡_ {A = ℕ} 0 1 = cc in omega arith)
+rate-no-nan (inf s) e = tt
+rate-no-nan (fin s m d) e = tt
+
+-- ---- letters
+
+pub record Capitals (c : Currency) : Type 0 where
+  pub first : (65 ≤ c .first) × (c .first ≤ 90)
+  pub second : (65 ≤ c .second) × (c .second ≤ 90)
+  pub third : (65 ≤ c .third) × (c .third ≤ 90)
+
+capital : (b : ℕ) → isCapital b ≡ true → (65 ≤ b) × (b ≤ 90)
+unfolding isCapital
+capital b e = let p = both-true (leb 65 b) (leb b 90) e in (leb-true 65 b (p .0), leb-true b 90 (p .1))
+
+pub capitals : (c : Currency) → isCurrency c ≡ true → Capitals c
+unfolding isCurrency
+capitals c e =
+    let p = both-true (isCapital (c .first)) (both (isCapital (c .second)) (isCapital (c .third))) e in
+    let q = both-true (isCapital (c .second)) (isCapital (c .third)) (p .1) in
+    record { first = capital (c .first) (p .0); second = capital (c .second) (q .0); third = capital (c .third) (q .1) }
+
+letters-fit : (c : Currency) → Capitals c → AllFit (lettersFields (lettersWith c))
+letters-fit c h = (omega (arith, h .first), (omega (arith, h .second), (omega (arith, h .third), omega arith)))
+
+-- ---- dates
+
+date-fits : (t : Date) → isDate t ≡ true → AllFit (dateFields t)
+date-fits t e = let h = date-yes t e in (omega (arith, h .year-to), (omega (arith, h .month-to), (omega (arith, h .day-to, at-most (t .year) (t .month)), omega arith)))
+
+coupon-fits : (c : CouponDate) → couponDate (c .day) (c .month) ≡ given c → AllFit (couponFields c)
+unfolding couponDate
+coupon-fits c e =
+    let a = unless-given (both (leb 1 (c .day)) (both (leb 1 (c .month)) (leb (c .month) 12))) 7 (unless (leb (c .day) (monthLength 2019 (c .month))) 8 (given c)) c e in
+    let b = unless-given (leb (c .day) (monthLength 2019 (c .month))) 8 (given c) c (a .1) in
+    let m = both-true (leb 1 (c .month)) (leb (c .month) 12) (both-true (leb 1 (c .day)) (both (leb 1 (c .month)) (leb (c .month) 12)) (a .0) .1) in
+    (omega (arith, leb-true (c .day) (monthLength 2019 (c .month)) (b .0), at-most 2019 (c .month)), (omega (arith, leb-true (c .month) 12 (m .1)), omega arith))
+
+-- ---- terms
+
+unit-below : (u : TimePeriodUnit) → unitCode u < 5
+unit-below unit.Daily = omega arith
+unit-below unit.BusinessDaily = omega arith
+unit-below unit.Weekly = omega arith
+unit-below unit.Monthly = omega arith
+unit-below unit.Annual = omega arith
+
+rule-below : (r : DayAdjust) → ruleCode r < 4
+rule-below rule.None = omega arith
+rule-below rule.Following = omega arith
+rule-below rule.Preceding = omega arith
+rule-below rule.Modified = omega arith
+
+code-below : (c : DayCountConv) → codeOf c < 6
+code-below conv.Act365 = omega arith
+code-below conv.Act360 = omega arith
+code-below conv.Act365l = omega arith
+code-below conv.D30_360 = omega arith
+code-below conv.D30E360 = omega arith
+code-below conv.ActActICMA = omega arith
+
+-- a period from 1 to 4,095
+pub in-twelve : (z : ℤ) → ltZ (pos 0) z ≡ true → leZ z (pos 4095) ≡ true → (natAbs z ≤ 4095) × (pos (natAbs z) ≡ z)
+in-twelve (pos n) h l = (leb-true n 4095 l, refl)
+in-twelve (negsuc n) h l = absurd (let z : _≡_ {A = ℕ} 0 1 = cc in omega arith)
+
+-- ---- the number
+
+pub record Digits (n : NoteNumber) : Type 0 where
+  pub from : 1 ≤ n .count
+  pub to : n .count ≤ 10
+  pub below : n .digits < 10 ^ n .count
+
+pub digits-known : (n : NoteNumber) → isNoteNumber n ≡ true → Digits n
+unfolding isNoteNumber
+digits-known n e =
+    let p = both-true (both (leb 1 (n .count)) (leb (n .count) 10)) (ltb (n .digits) (10 ^ n .count)) e in
+    let q = both-true (leb 1 (n .count)) (leb (n .count) 10) (p .0) in
+    record { from = leb-true 1 (n .count) (q .0); to = leb-true (n .count) 10 (q .1); below = ltb-true (n .digits) (10 ^ n .count) (p .1) }
+
+-- ---- all of them
+
+pub accepted : (n : Note) → Packable n → Accepted n
+accepted n h = passed true true n n (h .1) .note
+
+pub raw-fits : (n : Note) → Packable n → n .denomination < 2 ^ 32 → T (fits binary64 (n .rate)) → RawFits (rawWith n)
+raw-fits n h d f =
+    let a = accepted n h in
+    record {
+      number = (omega (arith, digits-known (n .number) (a .number) .to), (places-below (n .number .count) 10 (n .number .digits), omega arith));
+      issue = date-fits (n .«issue_date») (a .issued);
+      maturity = date-fits (n .maturity) (a .matures);
+      coupon = coupon-fits (n .«coupon_date») (a .coupon);
+      terms = (omega (arith, unit-below (n .period .unit)), (omega (arith, in-twelve (n .period .num) (a .period) (h .0) .0), (omega (arith, code-below (n .«day_count_convention»)), (omega (arith, rule-below (n .«business_day_rule»)), omega arith))));
+      denomination = d;
+      rate = toBits-lt binary64 (n .rate) f;
+      letters = letters-fit (n .currency) (capitals (n .currency) (a .currency));
+      spare = omega arith;
+    }

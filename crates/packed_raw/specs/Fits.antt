@@ -1,0 +1,35 @@
+-- A note that is packed, and that its numbers fit their bits. For inner functions only: no entry point promises or asks it.
+-- Assumes nothing.
+use Prim.Native.Nat.{_^_, _<_}
+use mathlib.Core.Path.{_≡_}
+use mathlib.Core.Bool.{true}
+use mathlib.Core.List.{List, [], _∷_}
+use lib.IntN.{pos}
+use lib.Signed.{leZ}
+use Rattle.paper.specs.Outcome.{given}
+use Rattle.bit_fields.specs.Bits.{Field}
+use Rattle.bond.specs.Notes.{noteChecks}
+use Rattle.bond.specs.declared.Note.{Note}
+use Rattle.packed_numbers.specs.declared.Raw.{Raw}
+use Rattle.packed_raw.specs.Fields.{numberFields, dateFields, couponFields, termsFields, lettersFields}
+
+-- a note that is not refused
+abbrev pub Packable : Note → Type 0
+Packable n = (leZ (n .period .num) (pos 4095) ≡ true) × (noteChecks true true n ≡ given n)
+
+-- every number fits its bits
+abbrev pub AllFit : List Field → Type 0
+AllFit [] = 0 < 1
+AllFit (f ∷ fs) = (f .number < 2 ^ f .width) × AllFit fs
+
+-- so do the numbers of a note
+pub record RawFits (r : Raw) : Type 0 where
+  pub number : AllFit (numberFields r)
+  pub issue : AllFit (dateFields (r .issue))
+  pub maturity : AllFit (dateFields (r .maturity))
+  pub coupon : AllFit (couponFields (r .coupon))
+  pub terms : AllFit (termsFields (r .terms))
+  pub denomination : r .denomination < 2 ^ 32
+  pub rate : r .rate < 2 ^ 64
+  pub letters : AllFit (lettersFields (r .letters))
+  pub spare : r .spare < 2 ^ 10

@@ -1,0 +1,6 @@
+pub mod Signs
+pub mod Digits
+pub mod Shortest
+pub mod RoundTrips
+pub mod OneOutcome
+pub mod Examples

@@ -1,0 +1,70 @@
+-- Laws of the sign and the magnitude of a number, and of its text with the sign. Assumes nothing.
+use Prim.Native.Nat.{ℕ, zero, suc, _+_, _≤_}
+use mathlib.Core.Path.{_≡_, refl, sym}
+use mathlib.Core.Bool.{Bool, true, false}
+use native.Mathlib.Omega.{arith}
+use native.Mathlib.Nat.{lt-trans}
+use lib.ListN.{length, length-append}
+use lib.IntN.{ℤ, pos, negsuc, negℤ, natAbs, _-ℤ_, +ℤ-idl}
+use lib.Signed.{ltZ, nonNeg}
+use lib.Dec.{T, lit<}
+use mir.Syntax.{w32, w64}
+use mir.Val.{SFits, toZ, ofZ}
+use mir.Facts.{toZ-ofZ}
+use borrow.Author.Tests.{le-ltb}
+use Rattle.text_lengths.specs.NumberTexts.{decimalText, isNegative, signText, signedText}
+use Rattle.text_lengths.proofs.Digits.{decimal-within}
+
+-- a number of 32 bits is the same number in 64
+pub wide : (z : ℤ) → SFits w32 z → SFits w64 z
+wide z f = record { sfits = lt-trans (f .sfits) (lit< tt) }
+
+pub below-negative : (z : ℤ) → ltZ z (pos 0) ≡ isNegative z
+below-negative (pos n) = le-ltb n 0 (omega arith)
+below-negative (negsuc n) = refl
+
+pub from-zero : (z : ℤ) → (pos 0 -ℤ z) ≡ negℤ z
+from-zero z = +ℤ-idl (negℤ z)
+
+pub abs-minus : (z : ℤ) → natAbs (negℤ z) ≡ natAbs z
+abs-minus (pos zero) = refl
+abs-minus (pos (suc n)) = refl
+abs-minus (negsuc n) = refl
+
+pub minus-fits : (z : ℤ) → SFits w32 z → SFits w64 (negℤ z)
+minus-fits (pos zero) f = record { sfits = lit< tt }
+minus-fits (pos (suc n)) f = record { sfits = omega (arith, f .sfits) }
+minus-fits (negsuc n) f = record { sfits = omega (arith, f .sfits) }
+
+pub minus-above : (z : ℤ) → isNegative z ≡ true → T (nonNeg (negℤ z))
+minus-above (pos n) e = let w : _≡_ {A = ℕ} 0 1 = cc in absurd (omega arith)
+minus-above (negsuc n) e = tt
+
+pub not-below : (z : ℤ) → isNegative z ≡ false → T (nonNeg z)
+not-below (pos n) e = tt
+not-below (negsuc n) e = let w : _≡_ {A = ℕ} 0 1 = cc in absurd (omega arith)
+
+pub abs-most : (z : ℤ) → SFits w32 z → natAbs z ≤ 2147483648
+abs-most (pos n) f = omega (arith, f .sfits)
+abs-most (negsuc n) f = omega (arith, f .sfits)
+
+-- the test of a number against zero, as code has it
+pub below-flag : (z : ℤ) → SFits w32 z → ltZ (toZ w32 (ofZ w32 z)) (pos 0) ≡ isNegative z
+below-flag z f = rw (toZ-ofZ f) (below-negative z)
+
+-- ---- a sign and a decimal: g says whether the number is negative, m is its magnitude
+
+pub length-signed : (z : ℤ) → length (signedText z) ≡ length (signText (isNegative z)) + length (decimalText (natAbs z))
+unfolding signedText
+length-signed z = length-append (signText (isNegative z)) (decimalText (natAbs z))
+
+sign-within : (g : Bool) → length (signText g) ≤ 1
+sign-within true = omega arith
+sign-within false = omega arith
+
+-- no text of a signed 32-bit number is longer than 11 bytes
+pub signed-within : (z : ℤ) → SFits w32 z → length (signedText z) ≤ 11
+signed-within z f = omega (arith, length-signed z, sign-within (isNegative z), decimal-within 10 (natAbs z) (omega arith) (omega (arith, abs-most z f)))
+
+pub signed-length-is : (z : ℤ) (g : Bool) (m k : ℕ) → g ≡ isNegative z → m ≡ natAbs z → k ≡ length (decimalText m) → length (signText g) + k ≡ length (signedText z)
+signed-length-is z g m k p q e = rw (e, p, q) (sym (length-signed z))

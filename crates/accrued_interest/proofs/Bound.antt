@@ -31,8 +31,9 @@ use Rattle.bond.specs.Notes.{noteChecks, firstCouponEnd, interestOn, exactInter
 use Rattle.bond.specs.declared.Note.{Note}
 use Rattle.bond.proofs.Ends.{Accepted, passed}
 use Rattle.bond.proofs.AmountBound.{AmountNear, interest-near}
-use Rattle.accrued_interest.specs.Accrued.{running, Begun, goesOn, periodHolding, elapsedDays, periodDays, rolled, dueBits, dueExact, amountDue, accruedIn, accruedFrom, accruedOn, accrued, inBits, exactly, CloseAmount, AccruedPromise}
-use Rattle.accrued_interest.specs.declared.CouponPeriod.{CouponPeriod}
+use Rattle.period_interest.specs.PeriodInterest.{Begun, elapsedDays, periodDays, rolled, dueBits, dueExact}
+use Rattle.accrued_interest.specs.Accrued.{running, goesOn, periodHolding, amountDue, accruedIn, accruedFrom, accruedOn, accrued, inBits, exactly, CloseAmount, AccruedPromise}
+use Rattle.period_interest.specs.declared.CouponPeriod.{CouponPeriod}
 use Rattle.accrued_interest.proofs.Walk.{first-begun, holding-stops}
 
 -- nothing is 0

@@ -16,8 +16,9 @@ use Rattle.day_count_conv.proofs.OneOutcome.{same-fraction-answer, fraction-num
 use Rattle.bond.specs.Notes.{noteChecks, firstCouponEnd}
 use Rattle.bond.specs.declared.Note.{Note}
 use Rattle.bond.proofs.OneOutcome.{checks-numbered, first-end-numbered}
-use Rattle.accrued_interest.specs.Accrued.{running, nextPeriod, goesOn, periodWithin, periodHolding, elapsedDays, periodDays, rolled, Amounts, amountDue, accruedIn, accruedFrom, accruedOn, accrued, AccruedPromise}
-use Rattle.accrued_interest.specs.declared.CouponPeriod.{CouponPeriod}
+use Rattle.period_interest.specs.PeriodInterest.{elapsedDays, periodDays, rolled}
+use Rattle.accrued_interest.specs.Accrued.{running, nextPeriod, goesOn, periodWithin, periodHolding, Amounts, amountDue, accruedIn, accruedFrom, accruedOn, accrued, AccruedPromise}
+use Rattle.period_interest.specs.declared.CouponPeriod.{CouponPeriod}
 
 pub one-accrued : (n : Note) (today : Date) (r s : YearFraction) → AccruedPromise n today r → AccruedPromise n today s → r ≡ s
 one-accrued n today r s p q = same-fraction-answer r s (p .0 ∙ sym (q .0))

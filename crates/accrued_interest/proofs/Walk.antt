@@ -17,8 +17,9 @@ use Rattle.time_period.proofs.Steps.{step-leads}
 use Rattle.bond.specs.Notes.{firstCouponEnd}
 use Rattle.bond.specs.declared.Note.{Note}
 use Rattle.bond.proofs.Ends.{first-end-later}
-use Rattle.accrued_interest.specs.Accrued.{running, Begun, nextPeriod, goesOn, periodWithin, periodHolding}
-use Rattle.accrued_interest.specs.declared.CouponPeriod.{CouponPeriod}
+use Rattle.period_interest.specs.PeriodInterest.{Begun}
+use Rattle.accrued_interest.specs.Accrued.{running, nextPeriod, goesOn, periodWithin, periodHolding}
+use Rattle.period_interest.specs.declared.CouponPeriod.{CouponPeriod}
 
 -- how far a period's end is from the calendar's
 pub ahead : CouponPeriod → ℕ

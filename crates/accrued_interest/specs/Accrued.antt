@@ -1,24 +1,22 @@
--- Accrued interest on one note: its refusals in their order, its f64, and its exact value.
+-- Accrued interest on one note: its refusals in their order, its f64, and its exact value. What accrues in one period is that of `period_interest`.
 -- Assumes nothing.
-use Prim.Native.Nat.{ℕ, zero, suc, _-_, _*_, _<_, _≤_}
+use Prim.Native.Nat.{ℕ, zero, suc, _≤_}
 use mathlib.Core.Path.{_≡_}
 use mathlib.Core.Bool.{Bool, true, false}
-use lib.IntN.{pos, _*ℤ_}
-use lib.Ieee.{Float, binary64, mul, ofBits}
+use lib.Ieee.{Float}
 use Rattle.paper.specs.Outcome.{Outcome, given, refused, unless, andThen, pick, both}
 use Rattle.rounding.specs.Close.{Close}
-use Rattle.calendar.specs.Dates.{isDate, isBefore, dayNumber}
+use Rattle.calendar.specs.Dates.{isDate, isBefore}
 use Rattle.calendar.specs.declared.Date.{Date}
 use Rattle.time_period.specs.Steps.{absent, stepped}
 use Rattle.day_fraction.specs.Exact.{Exact}
-use Rattle.day_fraction.specs.Fractions.{whole, over}
-use Rattle.day_count_conv.specs.Conventions.{fractionOutcome, rolledFrom, Values, yearFraction, Agree}
-use Rattle.day_count_conv.specs.Conventions as fraction
-use Rattle.day_count_conv.specs.declared.Extras.{Extras}
+use Rattle.day_count_conv.specs.Conventions.{fractionOutcome, Agree}
 use Rattle.day_count_conv.specs.declared.YearFraction.{YearFraction}
-use Rattle.bond.specs.Notes.{noteChecks, firstCouponEnd, interestOn, exactInterest}
+use Rattle.bond.specs.Notes.{noteChecks, firstCouponEnd}
 use Rattle.bond.specs.declared.Note.{Note}
-use Rattle.accrued_interest.specs.declared.CouponPeriod.{CouponPeriod}
+unfoldable pub use Rattle.period_interest.specs.PeriodInterest.{amountDue, accruedIn}
+pub use Rattle.period_interest.specs.PeriodInterest.{Amounts, inBits, exactly}
+use Rattle.period_interest.specs.declared.CouponPeriod.{CouponPeriod}
 use Rattle.accrued_interest.specs.declared.CouponPeriodAnswer.{CouponPeriodAnswer}
 use Rattle.accrued_interest.specs.declared.CouponPeriodAnswer.the-variants as period-answer
 
@@ -30,13 +28,6 @@ periodOutcome (period-answer.Refused n) = refused n
 -- a period runs from one date to another; the first from the issue date to the first coupon end
 abbrev pub running : Date → Date → CouponPeriod
 running start end = record { start = start; end = end }
-
--- a period that has begun: it runs forward, and today is not before its start
-pub record Begun (today : Date) (p : CouponPeriod) : Type 0 where
-  pub started : isDate (p .start) ≡ true
-  pub ended : isDate (p .end) ≡ true
-  pub forward : dayNumber (p .start) < dayNumber (p .end)
-  pub reached : dayNumber (p .start) ≤ dayNumber today
 
 -- each later one from the end of the one before to the next end; a date outside the range stops it with 1
 unfoldable pub nextPeriod : Note → CouponPeriod → Outcome CouponPeriod
@@ -54,32 +45,6 @@ periodWithin (suc k) n today p = elim (goesOn n today p) [ true ↦ andThen (nex
 unfoldable pub periodHolding : Note → Date → CouponPeriod → Outcome CouponPeriod
 periodHolding n today first = periodWithin 3652060 n today first
 
--- elapsed days, and period days
-abbrev pub elapsedDays : CouponPeriod → Date → ℕ
-elapsedDays p today = dayNumber today - dayNumber (p .start)
-
-abbrev pub periodDays : CouponPeriod → ℕ
-periodDays p = dayNumber (p .end) - dayNumber (p .start)
-
--- what is accrued: nothing, or an amount of a note's fraction, elapsed days and period days
-pub record Amounts (A : Type 0) : Type 0 where
-  pub nothing : A
-  pub fractions : Values A
-  pub due : Note → A → ℕ → ℕ → A
-
--- the first period here rolls from the issue date, and so each from its start
-abbrev pub rolled : Note → CouponPeriod → Extras
-rolled n p = rolledFrom (p .start) (n .period)
-
-unfoldable pub amountDue : {A : Type 0} → Amounts A → Note → Date → CouponPeriod → Outcome A
-amountDue v n today p =
-    andThen (yearFraction (v .fractions) (n .«day_count_convention») (p .start) (p .end) (rolled n p))
-    (λ fraction. given (v .due n fraction (elapsedDays p today) (periodDays p)))
-
--- a period whose end is not before maturity gives 0, as does a day past the last end
-unfoldable pub accruedIn : {A : Type 0} → Amounts A → Note → Date → CouponPeriod → Outcome A
-accruedIn v n today p = pick (isBefore (p .end) (n .maturity)) (amountDue v n today p) (given (v .nothing))
-
 unfoldable pub accruedFrom : {A : Type 0} → Amounts A → Note → Date → CouponPeriod → Outcome A
 accruedFrom v n today first = andThen (periodHolding n today first) (accruedIn v n today)
 
@@ -92,22 +57,6 @@ accruedOn v n today =
 -- order: the note's checks (no position and no table are taken), 1 for today, the 0 before issue, the walk's 1, then, where an amount is due, its fraction's refusals
 unfoldable pub accrued : {A : Type 0} → Amounts A → Note → Date → Outcome A
 accrued v n today = andThen (noteChecks true true n) (λ m. accruedOn v m today)
-
--- the f64: the full amount, denomination x rate / 100 x fraction, times elapsed days over period days; the 0 is +0
-abbrev pub dueBits : Note → Float → ℕ → ℕ → Float
-dueBits n fraction elapsed days = mul binary64 (interestOn (whole (pos (n .denomination))) (n .rate) fraction) (over (pos elapsed) days)
-
-abbrev pub inBits : Amounts Float
-inBits = record { nothing = ofBits binary64 0; fractions = fraction.inBits; due = dueBits }
-
--- the same over fractions
-abbrev pub dueExact : Note → Exact → ℕ → ℕ → Exact
-dueExact n fraction elapsed days =
-    let full = exactInterest (n .denomination) (n .rate) fraction in
-    record { num = full .num *ℤ pos elapsed; den = full .den * days }
-
-abbrev pub exactly : Amounts Exact
-exactly = record { nothing = record { num = pos 0; den = 1 }; fractions = fraction.exactly; due = dueExact }
 
 -- within 1 / 100,000 of a currency unit of the exact amount
 abbrev pub CloseAmount : Float → Exact → Type 0

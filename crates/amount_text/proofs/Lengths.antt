@@ -18,9 +18,9 @@ use Rattle.text.specs.Writing.{decimalText}
 use Rattle.text_lengths.proofs.Digits.{decimal-within}
 use Rattle.cash_amount.specs.Amounts.{currencyText}
 use Rattle.cash_amount.specs.declared.Currency.{Currency}
+use Rattle.four_decimals.proofs.Texts.{signed-long, four-long, sign-short}
 use Rattle.decimal.specs.Decimal.{isMinus, tenThousandths, decimalText16}
 use Rattle.decimal.proofs.Halves.{closest-whole}
-use Rattle.decimal.proofs.Texts.{signed-long, four-long, sign-short}
 use Rattle.amount_text.specs.AmountTexts.{amountText}
 
 -- ---- a finite f64 is at most 2 ^ 1024, whose decimal has 309 digits

@@ -82,15 +82,12 @@ fn magnitude_of(bits: u64) -> f64 {
     infinity - infinity
 }
 
-fn float_of(bits: u64) -> f64 {
+pub(crate) fn float(f: &[u8], at: usize) -> f64 {
+    let bits = long(f, at);
     if bits < SIGN {
         return magnitude_of(bits);
     }
     -magnitude_of(bits - SIGN)
-}
-
-pub(crate) fn float(f: &[u8], at: usize) -> f64 {
-    float_of(long(f, at))
 }
 
 fn minus(m: u32) -> i32
@@ -99,7 +96,9 @@ fn minus(m: u32) -> i32
     0 - (m as i32)
 }
 
-fn signed_of(w: u32) -> i32 {
+// Four bytes with a sign.
+pub(crate) fn signed(f: &[u8], at: usize) -> i32 {
+    let w = word(f, at);
     if w < 2147483648 {
         return w as i32;
     }
@@ -109,18 +108,15 @@ fn signed_of(w: u32) -> i32 {
     minus(4294967295 - w + 1)
 }
 
-// Four bytes with a sign.
-pub(crate) fn signed(f: &[u8], at: usize) -> i32 {
-    signed_of(word(f, at))
-}
-
 fn minus_long(m: u64) -> i64
     requires { ⌜ m ≤ 9223372036854775807 ⌝ }
 {
     0 - (m as i64)
 }
 
-fn signed_long_of(w: u64) -> i64 {
+// Eight bytes with a sign.
+pub(crate) fn signed_long(f: &[u8], at: usize) -> i64 {
+    let w = long(f, at);
     if w < SIGN {
         return w as i64;
     }
@@ -128,11 +124,6 @@ fn signed_long_of(w: u64) -> i64 {
         return -9223372036854775808;
     }
     minus_long(18446744073709551615 - w + 1)
-}
-
-// Eight bytes with a sign.
-pub(crate) fn signed_long(f: &[u8], at: usize) -> i64 {
-    signed_long_of(long(f, at))
 }
 
 pub(crate) fn date(f: &[u8], at: usize) -> Date {
@@ -166,8 +157,8 @@ pub(crate) fn period(f: &[u8], at: usize) -> TimePeriod {
     }
 }
 
-fn convention_of(b: u8) -> DayCountConv {
-    match b {
+pub(crate) fn convention(f: &[u8], at: usize) -> DayCountConv {
+    match byte(f, at) {
         0 => DayCountConv::Act365,
         1 => DayCountConv::Act360,
         2 => DayCountConv::Act365l,
@@ -177,21 +168,13 @@ fn convention_of(b: u8) -> DayCountConv {
     }
 }
 
-pub(crate) fn convention(f: &[u8], at: usize) -> DayCountConv {
-    convention_of(byte(f, at))
-}
-
-fn adjustment_of(b: u8) -> DayAdjust {
-    match b {
+pub(crate) fn adjustment(f: &[u8], at: usize) -> DayAdjust {
+    match byte(f, at) {
         0 => DayAdjust::None,
         1 => DayAdjust::Following,
         2 => DayAdjust::Preceding,
         _ => DayAdjust::Modified,
     }
-}
-
-pub(crate) fn adjustment(f: &[u8], at: usize) -> DayAdjust {
-    adjustment_of(byte(f, at))
 }
 
 pub(crate) fn currency(f: &[u8], at: usize) -> Currency {

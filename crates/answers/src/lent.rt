@@ -10,6 +10,12 @@ pub(crate) const WORD: u32 = 2779096485;
 // The number of bits 0x7FD5A5A5A5A5A5A5.
 pub(crate) const FLOAT: f64 = 6.080432662034303e307;
 
+pub(crate) fn at_most(n: usize, most: usize) -> usize
+    ensures { λ r. ⌜ r ≤ most ⌝ }
+{
+    if n < most { n } else { most }
+}
+
 // How many of the first bytes are lent: as many as asked, and no more than there are.
 pub(crate) fn bytes(n: usize, room: &[u8]) -> usize
     ensures { λ r. ⌜ (r ≤ length (now (room .entry))) × (r ≡ length (take r (now (room .entry)))) ⌝ }
@@ -52,14 +58,6 @@ pub(crate) fn first_words(room: &[u32], n: usize) -> &[u32] {
 pub(crate) fn first_floats(room: &[f64], n: usize) -> &[f64] {
     let k = floats(n, room);
     &room[..k]
-}
-
-pub(crate) fn word_in(s: &[u32], i: usize) -> u32 {
-    if i < s.len() { s[i] } else { 0 }
-}
-
-pub(crate) fn float_in(s: &[f64], i: usize) -> f64 {
-    if i < s.len() { s[i] } else { 0.0 }
 }
 
 // Whether the pattern still stands from a place on.

@@ -1,4 +1,4 @@
-// The line of an answer. Each function puts its bytes at a place of the output and answers the place behind them, or the same place where there is no room.
+// The line of an answer. A row is the words of an answer, or of a part of it, by value. What puts bytes at a place of the output answers the place behind them, or the same place where there is no room.
 ghost use Prim.Native.Nat.{_<_};
 use crate::lent;
 use calendar::Date;
@@ -6,6 +6,7 @@ use calendar::DateAnswer;
 use calendar::DayAnswer;
 use cash_amount::AmountAnswer;
 use cash_amount::Currency;
+use cash_flow::FlowsAnswer;
 use coupon_date::CouponAnswer;
 use coupon_date::CouponDate;
 use day_count_conv::YearFraction;
@@ -13,6 +14,203 @@ use text::LengthAnswer;
 use time_period::PeriodAnswer;
 use time_period::TimePeriod;
 use time_period::TimePeriodUnit;
+
+// The longest row is a packed note's, of 21 words.
+const WORDS: usize = 24;
+
+// A word is a byte alone, or a byte and a number: in decimal, or in that many digits of hex.
+const ALONE: u8 = 0;
+
+const DECIMAL: u8 = 1;
+
+const THREE_LETTERS: u8 = 6;
+
+const BITS: u8 = 16;
+
+pub(crate) struct Row {
+    n: usize,
+    fronts: [u8; WORDS],
+    forms: [u8; WORDS],
+    numbers: [u64; WORDS],
+}
+
+// The first n bytes, each a word.
+fn text_row(n: usize, fronts: [u8; WORDS]) -> Row {
+    Row {
+        n,
+        fronts,
+        forms: [ALONE; WORDS],
+        numbers: [0; WORDS],
+    }
+}
+
+pub(crate) fn empty() -> Row {
+    text_row(0, [0; WORDS])
+}
+
+pub(crate) fn ok() -> Row {
+    text_row(2, *b"ok                      ")
+}
+
+fn kept_or_broken(kept: bool) -> Row {
+    if kept {
+        return text_row(5, *b" kept                   ");
+    }
+    text_row(7, *b" broken                 ")
+}
+
+fn with(row: Row, front: u8, form: u8, number: u64) -> Row {
+    let mut row = row;
+    let n = row.n;
+    if n < WORDS {
+        row.fronts[n] = front;
+        row.forms[n] = form;
+        row.numbers[n] = number;
+        row.n = n + 1;
+    }
+    row
+}
+
+pub(crate) fn with_number(row: Row, front: u8, n: u64) -> Row {
+    with(row, front, DECIMAL, n)
+}
+
+pub(crate) fn refused(k: u32) -> Row {
+    with_number(text_row(7, *b"refused                 "), b' ', k as u64)
+}
+
+pub(crate) fn number(n: u64) -> Row {
+    with_number(ok(), b' ', n)
+}
+
+pub(crate) fn flag(b: bool) -> Row {
+    if b {
+        return number(1);
+    }
+    number(0)
+}
+
+pub(crate) fn with_signed(row: Row, n: i32) -> Row {
+    let m = text::magnitude(n) as u64;
+    if n < 0 {
+        return with_number(with(row, b' ', ALONE, 0), b'-', m);
+    }
+    with_number(row, b' ', m)
+}
+
+// The bits of a number; those of a NaN are not told.
+fn bits_of(x: f64) -> u64 {
+    if x != x {
+        return 9221120237041090560;
+    }
+    f64::to_bits(x)
+}
+
+pub(crate) fn with_bits(row: Row, front: u8, x: f64) -> Row {
+    with(row, front, BITS, bits_of(x))
+}
+
+pub(crate) fn bits(x: f64) -> Row {
+    with_bits(ok(), b' ', x)
+}
+
+pub(crate) fn with_date(row: Row, t: Date) -> Row {
+    let year = with_number(row, b' ', t.year as u64);
+    let month = with_number(year, b'-', t.month as u64);
+    with_number(month, b'-', t.day as u64)
+}
+
+// A currency as a number, its first letter the most significant.
+pub(crate) fn currency_number(c: Currency) -> u32 {
+    65536 * (c.first as u32) + 256 * (c.second as u32) + (c.third as u32)
+}
+
+pub(crate) fn with_currency(row: Row, front: u8, c: Currency) -> Row {
+    with(row, front, THREE_LETTERS, currency_number(c) as u64)
+}
+
+fn unit_code(unit: TimePeriodUnit) -> u32 {
+    match unit {
+        TimePeriodUnit::Daily => 0,
+        TimePeriodUnit::BusinessDaily => 1,
+        TimePeriodUnit::Weekly => 2,
+        TimePeriodUnit::Monthly => 3,
+        TimePeriodUnit::Annual => 4,
+    }
+}
+
+pub(crate) fn with_period(row: Row, p: TimePeriod) -> Row {
+    let unit = p.unit;
+    with_number(with_signed(row, p.num), b' ', unit_code(unit) as u64)
+}
+
+pub(crate) fn with_coupon(row: Row, c: CouponDate) -> Row {
+    with_number(with_number(row, b' ', c.day as u64), b' ', c.month as u64)
+}
+
+pub(crate) fn date(a: DateAnswer) -> Row {
+    match a {
+        DateAnswer::Date(t) => with_date(ok(), t),
+        DateAnswer::Refused(k) => refused(k),
+    }
+}
+
+pub(crate) fn day(a: DayAnswer) -> Row {
+    match a {
+        DayAnswer::Day(d) => number(d.0 as u64),
+        DayAnswer::Refused(k) => refused(k),
+    }
+}
+
+pub(crate) fn amount(a: AmountAnswer) -> Row {
+    match a {
+        AmountAnswer::Amount(x) => bits(x),
+        AmountAnswer::Refused(k) => refused(k),
+    }
+}
+
+pub(crate) fn fraction(a: YearFraction) -> Row {
+    match a {
+        YearFraction::Fraction(x) => bits(x),
+        YearFraction::Refused(k) => refused(k),
+    }
+}
+
+pub(crate) fn period(a: PeriodAnswer) -> Row {
+    match a {
+        PeriodAnswer::Period(p) => with_period(ok(), p),
+        PeriodAnswer::Refused(k) => refused(k),
+    }
+}
+
+pub(crate) fn coupon(a: CouponAnswer) -> Row {
+    match a {
+        CouponAnswer::Coupon(c) => with_coupon(ok(), c),
+        CouponAnswer::Refused(k) => refused(k),
+    }
+}
+
+pub(crate) fn flows(a: FlowsAnswer) -> Row {
+    match a {
+        FlowsAnswer::Flows(n) => number(n as u64),
+        FlowsAnswer::Refused(k) => refused(k),
+    }
+}
+
+// How many places an answer has filled.
+pub(crate) fn filled(a: FlowsAnswer) -> usize {
+    match a {
+        FlowsAnswer::Flows(n) => n,
+        FlowsAnswer::Refused(_) => 0,
+    }
+}
+
+pub(crate) fn length(a: LengthAnswer) -> Row {
+    match a {
+        LengthAnswer::Length(n) => number(n as u64),
+        LengthAnswer::Refused(k) => refused(k),
+    }
+}
 
 pub(crate) fn put_byte(b: u8, out: &mut [u8], at: usize) -> usize {
     if at < out.len() {
@@ -22,7 +220,7 @@ pub(crate) fn put_byte(b: u8, out: &mut [u8], at: usize) -> usize {
     at
 }
 
-pub(crate) fn put_bytes(s: &[u8], out: &mut [u8], at: usize) -> usize {
+fn put_bytes(s: &[u8], out: &mut [u8], at: usize) -> usize {
     if out.len() < s.len() {
         return at;
     }
@@ -32,7 +230,7 @@ pub(crate) fn put_bytes(s: &[u8], out: &mut [u8], at: usize) -> usize {
     text::put_bytes(s, out, at)
 }
 
-pub(crate) fn put_number(n: u64, out: &mut [u8], at: usize) -> usize {
+fn put_number(n: u64, out: &mut [u8], at: usize) -> usize {
     let mut digits = [0u8; 20];
     let k = io::decimal(n, &mut digits);
     put_bytes(&digits[..k], out, at)
@@ -44,47 +242,35 @@ fn put_hex(n: u64, width: usize, out: &mut [u8], at: usize) -> usize {
     put_bytes(&digits[..k], out, at)
 }
 
-pub(crate) fn put_signed(n: i32, out: &mut [u8], at: usize) -> usize {
-    if n < 0 {
-        let next = put_byte(b'-', out, at);
-        return put_number(text::magnitude(n) as u64, out, next);
+fn put_word(front: u8, form: u8, n: u64, out: &mut [u8], at: usize) -> usize {
+    let next = put_byte(front, out, at);
+    match form {
+        0 => next,
+        1 => put_number(n, out, next),
+        _ => put_hex(n, form as usize, out, next),
     }
-    put_number(text::magnitude(n) as u64, out, at)
 }
 
-// The bits of a number; those of a NaN are not told.
-fn bits_of(x: f64) -> u64 {
-    if x != x {
-        return 9221120237041090560;
+pub(crate) fn put_row(row: Row, out: &mut [u8], at: usize) -> usize {
+    let n = row.n;
+    let fronts = row.fronts;
+    let forms = row.forms;
+    let numbers = row.numbers;
+    let mut next = at;
+    let mut i: usize = 0;
+    while i < WORDS {
+        if n <= i {
+            return next;
+        }
+        next = put_word(fronts[i], forms[i], numbers[i], out, next);
+        i += 1;
     }
-    f64::to_bits(x)
+    next
 }
 
-pub(crate) fn put_bits(x: f64, out: &mut [u8], at: usize) -> usize {
-    put_hex(bits_of(x), 16, out, at)
-}
-
-pub(crate) fn ok(out: &mut [u8], at: usize) -> usize {
-    put_bytes(b"ok ", out, at)
-}
-
-pub(crate) fn refused(k: u32, out: &mut [u8], at: usize) -> usize {
-    let next = put_bytes(b"refused ", out, at);
-    put_number(k as u64, out, next)
-}
-
-// A blank and a number.
-pub(crate) fn put_word(n: u32, out: &mut [u8], at: usize) -> usize {
-    let next = put_byte(b' ', out, at);
-    put_number(n as u64, out, next)
-}
-
-pub(crate) fn put_date(t: Date, out: &mut [u8], at: usize) -> usize {
-    let year = put_number(t.year as u64, out, at);
-    let dash = put_byte(b'-', out, year);
-    let month = put_number(t.month as u64, out, dash);
-    let second = put_byte(b'-', out, month);
-    put_number(t.day as u64, out, second)
+// Whether lent memory that no answer fills is as it was.
+pub(crate) fn put_kept(kept: bool, out: &mut [u8], at: usize) -> usize {
+    put_row(kept_or_broken(kept), out, at)
 }
 
 fn digit(n: u8) -> u8
@@ -108,150 +294,33 @@ fn put_hex_row(s: &[u8], out: &mut [u8], at: usize) -> usize {
     next
 }
 
-// Bytes as hex, `-` for none.
-fn put_hex_bytes(s: &[u8], out: &mut [u8], at: usize) -> usize {
-    if s.len() == 0 {
-        return put_byte(b'-', out, at);
+// A text's length, and `-` where it has no bytes to follow.
+fn text_length(n: usize) -> Row {
+    let row = with(number(n as u64), b' ', ALONE, 0);
+    if n == 0 {
+        return with(row, b'-', ALONE, 0);
     }
-    put_hex_row(s, out, at)
+    row
 }
 
-pub(crate) fn put_currency(c: Currency, out: &mut [u8], at: usize) -> usize {
-    let second = put_hex_byte(c.first, out, at);
-    let third = put_hex_byte(c.second, out, second);
-    put_hex_byte(c.third, out, third)
-}
-
-pub(crate) fn put_kept(kept: bool, out: &mut [u8], at: usize) -> usize {
-    if kept {
-        return put_bytes(b" kept", out, at);
-    }
-    put_bytes(b" broken", out, at)
-}
-
-fn unit_code(unit: TimePeriodUnit) -> u32 {
-    match unit {
-        TimePeriodUnit::Daily => 0,
-        TimePeriodUnit::BusinessDaily => 1,
-        TimePeriodUnit::Weekly => 2,
-        TimePeriodUnit::Monthly => 3,
-        TimePeriodUnit::Annual => 4,
-    }
-}
-
-pub(crate) fn put_period(p: TimePeriod, out: &mut [u8], at: usize) -> usize {
-    let unit = p.unit;
-    let next = put_signed(p.num, out, at);
-    put_word(unit_code(unit), out, next)
-}
-
-pub(crate) fn put_coupon(c: CouponDate, out: &mut [u8], at: usize) -> usize {
-    let next = put_number(c.day as u64, out, at);
-    put_word(c.month, out, next)
-}
-
-fn put_bool(b: bool, out: &mut [u8], at: usize) -> usize {
-    if b {
-        return put_byte(b'1', out, at);
-    }
-    put_byte(b'0', out, at)
-}
-
-// What is told of an answer without lent memory.
-pub(crate) enum Told {
-    Bool(bool),
-    Number(u64),
-    Signed(i32),
-    Bits(f64),
-    Date(Date),
-    Period(TimePeriod),
-    Coupon(CouponDate),
-    Nothing,
-    Refused(u32),
-}
-
-fn put_value(told: Told, out: &mut [u8], at: usize) -> usize {
-    match told {
-        Told::Bool(b) => put_bool(b, out, at),
-        Told::Number(n) => put_number(n, out, at),
-        Told::Signed(n) => put_signed(n, out, at),
-        Told::Bits(x) => put_bits(x, out, at),
-        Told::Date(t) => put_date(t, out, at),
-        Told::Period(p) => put_period(p, out, at),
-        Told::Coupon(c) => put_coupon(c, out, at),
-        Told::Nothing => at,
-        Told::Refused(_) => at,
-    }
-}
-
-pub(crate) fn put_told(told: Told, out: &mut [u8], at: usize) -> usize {
-    match told {
-        Told::Refused(k) => refused(k, out, at),
-        Told::Nothing => put_bytes(b"ok", out, at),
-        _ => {
-            let next = ok(out, at);
-            put_value(told, out, next)
-        }
-    }
-}
-
-pub(crate) fn date(a: DateAnswer) -> Told {
+fn written(a: LengthAnswer) -> Row {
     match a {
-        DateAnswer::Date(t) => Told::Date(t),
-        DateAnswer::Refused(k) => Told::Refused(k),
+        LengthAnswer::Length(n) => text_length(n),
+        LengthAnswer::Refused(k) => refused(k),
     }
 }
 
-pub(crate) fn day(a: DayAnswer) -> Told {
+fn written_bytes(a: LengthAnswer) -> usize {
     match a {
-        DayAnswer::Day(d) => Told::Number(d.0 as u64),
-        DayAnswer::Refused(k) => Told::Refused(k),
+        LengthAnswer::Length(n) => n,
+        LengthAnswer::Refused(_) => 0,
     }
 }
 
-pub(crate) fn amount(a: AmountAnswer) -> Told {
-    match a {
-        AmountAnswer::Amount(x) => Told::Bits(x),
-        AmountAnswer::Refused(k) => Told::Refused(k),
-    }
-}
-
-pub(crate) fn fraction(a: YearFraction) -> Told {
-    match a {
-        YearFraction::Fraction(x) => Told::Bits(x),
-        YearFraction::Refused(k) => Told::Refused(k),
-    }
-}
-
-pub(crate) fn period(a: PeriodAnswer) -> Told {
-    match a {
-        PeriodAnswer::Period(p) => Told::Period(p),
-        PeriodAnswer::Refused(k) => Told::Refused(k),
-    }
-}
-
-pub(crate) fn coupon(a: CouponAnswer) -> Told {
-    match a {
-        CouponAnswer::Coupon(c) => Told::Coupon(c),
-        CouponAnswer::Refused(k) => Told::Refused(k),
-    }
-}
-
-fn put_text(m: usize, room: &[u8], out: &mut [u8], at: usize) -> usize {
-    let first = ok(out, at);
-    let blank = put_number(m as u64, out, first);
-    let hex = put_byte(b' ', out, blank);
-    let kept = put_hex_bytes(lent::first_bytes(room, m), out, hex);
-    put_kept(lent::bytes_kept(room, m), out, kept)
-}
-
-// What a text's writer answers and leaves in its room.
+// What a text's writer answers and leaves in its room, the text as hex.
 pub(crate) fn put_written(a: LengthAnswer, room: &[u8], out: &mut [u8], at: usize) -> usize {
-    match a {
-        LengthAnswer::Length(m) => put_text(m, room, out, at),
-        LengthAnswer::Refused(k) => {
-            let next = refused(k, out, at);
-            put_kept(lent::bytes_kept(room, 0), out, next)
-        }
-    }
+    let n = written_bytes(a);
+    let text = put_row(written(a), out, at);
+    let end = put_hex_row(lent::first_bytes(room, n), out, text);
+    put_kept(lent::bytes_kept(room, n), out, end)
 }

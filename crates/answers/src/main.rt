@@ -12,32 +12,45 @@ mod texts;
 
 use libc::STDIN_FILENO;
 use libc::STDOUT_FILENO;
-use line::Told;
+use line::Row;
+
+// A letter for each verb, from 0 on: which function answers it. Large letters are for what leaves something in lent memory.
+fn kind(verb: u8) -> u8 {
+    fields::byte(
+        b" dddddddddddddddbbbbbbbtWttttbbttWtaaaaWWWWtaaaFnnRnPQLttsGStccccWWWWctchhhohhhnxxxt",
+        verb as usize,
+    )
+}
 
 // The answers that leave nothing in lent memory.
-fn told(verb: u8, f: &[u8]) -> Told {
-    match verb {
-        1..=15 => days::told(verb, f),
-        16..=22 | 29 | 30 => business::told(verb, f),
-        23 | 25..=28 | 31 | 32 | 34 | 43 | 55 | 56 | 60 | 70 | 83 => texts::told(verb, f),
-        35..=38 | 44..=46 => amounts::told(verb, f),
-        48 | 49 | 51 | 79 => notes::told(verb, f),
-        57 => records::told(f),
-        61..=64 | 69 | 71..=78 | 80..=82 => parts::told(verb, f),
-        _ => Told::Refused(0),
+fn told(kind: u8, verb: u8, f: &[u8]) -> Row {
+    match kind {
+        b'd' => days::told(verb, f),
+        b'b' => business::told(verb, f),
+        b't' => texts::told(verb, f),
+        b'a' => amounts::told(verb, f),
+        b'n' => notes::told(verb, f),
+        b's' => records::told(f),
+        b'c' => line::number(parts::count(verb, f)),
+        b'h' => line::flag(parts::holds(verb, f)),
+        b'o' => parts::day(f),
+        b'x' => line::bits(parts::amount(verb, f)),
+        _ => line::refused(0),
     }
 }
 
 fn words(verb: u8, f: &[u8], out: &mut [u8], at: usize) -> usize {
-    match verb {
-        24 | 33 | 39..=42 | 65..=68 => texts::put_written(verb, f, out, at),
-        47 => amounts::put_flows_after(f, out, at),
-        50 | 59 => notes::put_rollout(verb, f, out, at),
-        52 => notes::put_read_note(f, out, at),
-        53 => notes::put_written_note(f, out, at),
-        54 => notes::put_listing(f, out, at),
-        58 => records::put_flows_after(f, out, at),
-        _ => line::put_told(told(verb, f), out, at),
+    let kind = kind(verb);
+    match kind {
+        b'W' => texts::put_written(verb, f, out, at),
+        b'F' => amounts::put_flows_after(f, out, at),
+        b'R' => notes::put_rollout(f, out, at),
+        b'P' => notes::put_read_note(f, out, at),
+        b'Q' => notes::put_written_note(f, out, at),
+        b'L' => notes::put_listing(f, out, at),
+        b'G' => records::put(records::flows_after(f), out, at),
+        b'S' => records::put(records::rollout(f), out, at),
+        _ => line::put_row(told(kind, verb, f), out, at),
     }
 }
 

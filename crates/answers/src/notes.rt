@@ -2,8 +2,7 @@
 use crate::fields;
 use crate::lent;
 use crate::line;
-use crate::line::Told;
-use crate::records;
+use crate::line::Row;
 use bond::Note;
 use bond::NoteAnswer;
 use cash_flow::FlowsAnswer;
@@ -12,14 +11,17 @@ use packed::PackedAnswer;
 use packed::PackedNote;
 use text::LengthAnswer;
 
-fn checked(a: NoteAnswer) -> Told {
+// The most flows that a rollout is lent places for.
+const PLACES: usize = 4000;
+
+fn checked(a: NoteAnswer) -> Row {
     match a {
-        NoteAnswer::Note(_) => Told::Nothing,
-        NoteAnswer::Refused(k) => Told::Refused(k),
+        NoteAnswer::Note(_) => line::ok(),
+        NoteAnswer::Refused(k) => line::refused(k),
     }
 }
 
-pub(crate) fn told(verb: u8, f: &[u8]) -> Told {
+pub(crate) fn told(verb: u8, f: &[u8]) -> Row {
     let note = fields::note(f);
     match verb {
         48 => checked(bond::check_note(note)),
@@ -29,72 +31,91 @@ pub(crate) fn told(verb: u8, f: &[u8]) -> Told {
     }
 }
 
-fn put_flow(day: u32, amount: f64, out: &mut [u8], at: usize) -> usize {
-    let first = line::put_word(day, out, at);
-    let second = line::put_byte(b':', out, first);
-    line::put_bits(amount, out, second)
+// What a rollout answers and leaves in its two lists.
+pub(crate) struct RolledOut {
+    answer: FlowsAnswer,
+    days: [u32; PLACES],
+    amounts: [f64; PLACES],
 }
 
-fn put_flows(days: &[u32], amounts: &[f64], out: &mut [u8], at: usize) -> usize {
-    let mut next = at;
-    let mut i: usize = 0;
-    while i < days.len() {
-        next = put_flow(days[i], lent::float_in(amounts, i), out, next);
-        i += 1;
-    }
-    next
+// Rooms are made by calls, so that the proof of what lends one does not write its places out.
+fn day_room() -> [u32; PLACES] {
+    [lent::WORD; PLACES]
 }
 
-fn both_kept(days: &[u32], amounts: &[f64], from: usize) -> bool {
-    if !lent::words_kept(days, from) {
-        return false;
-    }
-    lent::floats_kept(amounts, from)
+fn amount_room() -> [f64; PLACES] {
+    [lent::FLOAT; PLACES]
 }
 
-// What stands in the two lists behind the answer.
-fn rolled(a: FlowsAnswer, days: &[u32], amounts: &[f64], out: &mut [u8], at: usize) -> usize {
-    match a {
-        FlowsAnswer::Flows(n) => {
-            let first = line::ok(out, at);
-            let second = line::put_number(n as u64, out, first);
-            let third = put_flows(lent::first_words(days, n), amounts, out, second);
-            line::put_kept(both_kept(days, amounts, n), out, third)
-        }
-        FlowsAnswer::Refused(k) => {
-            let next = line::refused(k, out, at);
-            line::put_kept(both_kept(days, amounts, 0), out, next)
-        }
-    }
+fn listing_room() -> [u8; 200000] {
+    [lent::BYTE; 200000]
 }
 
-fn roll(f: &[u8], table: &[u32], days: &mut [u32], amounts: &mut [f64]) -> FlowsAnswer {
-    let d = lent::words(fields::places(f, 74), days);
-    let a = lent::floats(fields::places(f, 74), amounts);
-    rollout::rollout_flows(
+fn roll(f: &[u8], table: &[u32]) -> RolledOut {
+    let places = fields::places(f, 74);
+    let mut days = day_room();
+    let mut amounts = amount_room();
+    let d = lent::words(places, &days);
+    let a = lent::floats(places, &amounts);
+    let answer = rollout::rollout_flows(
         fields::note(f),
         fields::float(f, 66),
         table,
         &mut days[..d],
         &mut amounts[..a],
+    );
+    RolledOut {
+        answer,
+        days,
+        amounts,
+    }
+}
+
+fn rolled(f: &[u8]) -> RolledOut {
+    let mut table = [0u32; 4200];
+    let n = fields::table(fields::rest(f, 78), &mut table);
+    roll(f, lent::first_words(&table, n))
+}
+
+fn flow(day: u32, amount: f64) -> Row {
+    line::with_bits(
+        line::with_number(line::empty(), b' ', day as u64),
+        b':',
+        amount,
     )
 }
 
-fn rolled_out(f: &[u8], table: &[u32], out: &mut [u8], at: usize) -> usize {
-    let mut days = [lent::WORD; 4000];
-    let mut amounts = [lent::FLOAT; 4000];
-    let answer = roll(f, table, &mut days, &mut amounts);
-    rolled(answer, &days, &amounts, out, at)
+fn put_flows(a: RolledOut, n: usize, out: &mut [u8], at: usize) -> usize {
+    let days = a.days;
+    let amounts = a.amounts;
+    let mut next = at;
+    let mut i: usize = 0;
+    while i < PLACES {
+        if n <= i {
+            return next;
+        }
+        next = line::put_row(flow(days[i], amounts[i]), out, next);
+        i += 1;
+    }
+    next
 }
 
-pub(crate) fn put_rollout(verb: u8, f: &[u8], out: &mut [u8], at: usize) -> usize {
-    let mut table = [0u32; 4200];
-    let n = fields::table(fields::rest(f, 78), &mut table);
-    let days = lent::first_words(&table, n);
-    if verb == 59 {
-        return records::put_rolled(f, days, out, at);
+fn both_kept(a: RolledOut, from: usize) -> bool {
+    let days = a.days;
+    let amounts = a.amounts;
+    if !lent::words_kept(&days, from) {
+        return false;
     }
-    rolled_out(f, days, out, at)
+    lent::floats_kept(&amounts, from)
+}
+
+pub(crate) fn put_rollout(f: &[u8], out: &mut [u8], at: usize) -> usize {
+    let a = rolled(f);
+    let answer = a.answer;
+    let n = line::filled(answer);
+    let first = line::put_row(line::flows(answer), out, at);
+    let second = put_flows(a, n, out, first);
+    line::put_kept(both_kept(a, n), out, second)
 }
 
 fn adjustment_code(rule: DayAdjust) -> u32 {
@@ -106,66 +127,61 @@ fn adjustment_code(rule: DayAdjust) -> u32 {
     }
 }
 
-fn put_number_and_dates(note: Note, out: &mut [u8], at: usize) -> usize {
+fn with_number_and_dates(row: Row, note: Note) -> Row {
     let number = note.number;
-    let first = line::put_word(number.count, out, at);
-    let second = line::put_byte(b' ', out, first);
-    let third = line::put_number(number.digits, out, second);
-    let fourth = line::put_byte(b' ', out, third);
-    let fifth = line::put_date(note.issue_date, out, fourth);
-    let sixth = line::put_byte(b' ', out, fifth);
-    line::put_date(note.maturity, out, sixth)
+    let first = line::with_number(row, b' ', number.count as u64);
+    let second = line::with_number(first, b' ', number.digits);
+    line::with_date(line::with_date(second, note.issue_date), note.maturity)
 }
 
-fn put_terms(note: Note, out: &mut [u8], at: usize) -> usize {
+fn with_terms(row: Row, note: Note) -> Row {
     let convention = note.day_count_convention;
     let rule = note.business_day_rule;
-    let first = line::put_byte(b' ', out, at);
-    let second = line::put_coupon(note.coupon_date, out, first);
-    let third = line::put_byte(b' ', out, second);
-    let fourth = line::put_period(note.period, out, third);
-    let fifth = line::put_word(convention_codes::code_of(convention), out, fourth);
-    line::put_word(adjustment_code(rule), out, fifth)
+    let first = line::with_coupon(row, note.coupon_date);
+    let second = line::with_period(first, note.period);
+    let third = line::with_number(second, b' ', convention_codes::code_of(convention) as u64);
+    line::with_number(third, b' ', adjustment_code(rule) as u64)
 }
 
-fn put_money(note: Note, out: &mut [u8], at: usize) -> usize {
-    let first = line::put_word(note.denomination, out, at);
-    let second = line::put_byte(b' ', out, first);
-    let third = line::put_bits(note.rate, out, second);
-    let fourth = line::put_byte(b' ', out, third);
-    line::put_currency(note.currency, out, fourth)
+fn with_money(row: Row, note: Note) -> Row {
+    let first = line::with_number(row, b' ', note.denomination as u64);
+    let second = line::with_bits(first, b' ', note.rate);
+    line::with_currency(second, b' ', note.currency)
 }
 
-fn put_words(s: &[u32], out: &mut [u8], at: usize) -> usize {
+fn packed_note(p: PackedNote) -> Row {
+    let note = p.note;
+    let first = with_number_and_dates(line::number(p.holidays as u64), note);
+    with_money(with_terms(first, note), note)
+}
+
+fn packed(a: PackedAnswer) -> Row {
+    match a {
+        PackedAnswer::Packed(p) => packed_note(p),
+        PackedAnswer::Refused(k) => line::refused(k),
+    }
+}
+
+// How many places of its table an answer has filled.
+fn filled(a: PackedAnswer) -> usize {
+    match a {
+        PackedAnswer::Packed(p) => p.holidays,
+        PackedAnswer::Refused(_) => 0,
+    }
+}
+
+fn holiday(day: u32) -> Row {
+    line::with_number(line::empty(), b' ', day as u64)
+}
+
+fn put_holidays(s: &[u32], out: &mut [u8], at: usize) -> usize {
     let mut next = at;
     let mut i: usize = 0;
     while i < s.len() {
-        next = line::put_word(s[i], out, next);
+        next = line::put_row(holiday(s[i]), out, next);
         i += 1;
     }
     next
-}
-
-fn put_packed(p: PackedNote, table: &[u32], out: &mut [u8], at: usize) -> usize {
-    let n = p.holidays;
-    let note = p.note;
-    let first = line::ok(out, at);
-    let second = line::put_number(n as u64, out, first);
-    let third = put_number_and_dates(note, out, second);
-    let fourth = put_terms(note, out, third);
-    let fifth = put_money(note, out, fourth);
-    let sixth = put_words(lent::first_words(table, n), out, fifth);
-    line::put_kept(lent::words_kept(table, n), out, sixth)
-}
-
-fn packed_note(a: PackedAnswer, table: &[u32], out: &mut [u8], at: usize) -> usize {
-    match a {
-        PackedAnswer::Packed(p) => put_packed(p, table, out, at),
-        PackedAnswer::Refused(k) => {
-            let next = line::refused(k, out, at);
-            line::put_kept(lent::words_kept(table, 0), out, next)
-        }
-    }
 }
 
 fn read(f: &[u8], table: &mut [u32]) -> PackedAnswer {
@@ -176,7 +192,10 @@ fn read(f: &[u8], table: &mut [u32]) -> PackedAnswer {
 pub(crate) fn put_read_note(f: &[u8], out: &mut [u8], at: usize) -> usize {
     let mut table = [lent::WORD; 4200];
     let answer = read(f, &mut table);
-    packed_note(answer, &table, out, at)
+    let n = filled(answer);
+    let first = line::put_row(packed(answer), out, at);
+    let second = put_holidays(lent::first_words(&table, n), out, first);
+    line::put_kept(lent::words_kept(&table, n), out, second)
 }
 
 fn write(f: &[u8], table: &[u32], room: &mut [u8]) -> LengthAnswer {
@@ -199,11 +218,6 @@ pub(crate) fn put_written_note(f: &[u8], out: &mut [u8], at: usize) -> usize {
 fn list(f: &[u8], room: &mut [u8]) -> LengthAnswer {
     let n = lent::bytes(fields::places(f, 0), room);
     note_listing::list_note(fields::rest(f, 4), &mut room[..n])
-}
-
-// Made by a call, so that the proof of what lends it does not write its bytes out.
-fn listing_room() -> [u8; 200000] {
-    [lent::BYTE; 200000]
 }
 
 pub(crate) fn put_listing(f: &[u8], out: &mut [u8], at: usize) -> usize {

@@ -4,7 +4,7 @@ use crate::amounts;
 use crate::fields;
 use crate::lent;
 use crate::line;
-use crate::line::Told;
+use crate::line::Row;
 use bond::Note;
 use calendar::Date;
 use cash_amount::AmountAnswer;
@@ -15,6 +15,9 @@ use rates::FlatRate;
 
 // More than a rollout keeps, so that what it reads anew is asked too.
 const PLACES: usize = 300;
+
+// The number of three bytes of the pattern.
+const PATTERN_CURRENCY: u32 = 10855845;
 
 // What a call answers and leaves in its room.
 pub(crate) struct Records {
@@ -78,26 +81,26 @@ fn patterns() -> [CashFlow; PLACES] {
 fn is_pattern(flow: CashFlow) -> bool {
     let t = flow.date;
     let c = flow.currency;
-    if t.year != lent::WORD || t.month != lent::WORD || t.day != lent::WORD {
+    if t.year != lent::WORD {
         return false;
     }
-    if c.first != lent::BYTE || c.second != lent::BYTE || c.third != lent::BYTE {
+    if t.month != lent::WORD {
+        return false;
+    }
+    if t.day != lent::WORD {
+        return false;
+    }
+    if line::currency_number(c) != PATTERN_CURRENCY {
         return false;
     }
     flow.amount == lent::FLOAT
-}
-
-fn at_most_places(n: usize) -> usize
-    ensures { λ r. ⌜ r ≤ 300 ⌝ }
-{
-    if n < PLACES { n } else { PLACES }
 }
 
 // How many of the flows that follow their count are lent.
 fn flow_count(f: &[u8]) -> usize
     ensures { λ r. ⌜ r ≤ 300 ⌝ }
 {
-    at_most_places(fields::half(f, 0) as usize)
+    lent::at_most(fields::half(f, 0) as usize, PLACES)
 }
 
 fn flows_in(f: &[u8], n: usize) -> [CashFlow; PLACES]
@@ -112,7 +115,7 @@ fn flows_in(f: &[u8], n: usize) -> [CashFlow; PLACES]
     flows
 }
 
-pub(crate) fn told(f: &[u8]) -> Told {
+pub(crate) fn told(f: &[u8]) -> Row {
     let flows = fields::rest(f, 24);
     let n = flow_count(flows);
     line::amount(stream(
@@ -135,62 +138,52 @@ fn kept(room: [CashFlow; PLACES], from: usize) -> bool {
     true
 }
 
-fn put_record(flow: CashFlow, out: &mut [u8], at: usize) -> usize {
-    let first = line::put_byte(b' ', out, at);
-    let second = line::put_date(flow.date, out, first);
-    let third = line::put_byte(b':', out, second);
-    let fourth = line::put_currency(flow.currency, out, third);
-    let fifth = line::put_byte(b':', out, fourth);
-    line::put_bits(flow.amount, out, fifth)
+fn record(flow: CashFlow) -> Row {
+    let first = line::with_date(line::empty(), flow.date);
+    let second = line::with_currency(first, b':', flow.currency);
+    line::with_bits(second, b':', flow.amount)
 }
 
-fn put_records(room: [CashFlow; PLACES], n: usize, out: &mut [u8], at: usize) -> usize
-    requires { ⌜ n ≤ 300 ⌝ }
-{
+fn put_records(room: [CashFlow; PLACES], n: usize, out: &mut [u8], at: usize) -> usize {
     let mut next = at;
     let mut i: usize = 0;
-    while i < n {
+    while i < PLACES {
+        if n <= i {
+            return next;
+        }
         let flow = room[i];
-        next = put_record(flow, out, next);
+        next = line::put_row(record(flow), out, next);
         i += 1;
     }
     next
 }
 
 // What stands in the room behind the answer.
-fn put(a: Records, out: &mut [u8], at: usize) -> usize {
+pub(crate) fn put(a: Records, out: &mut [u8], at: usize) -> usize {
     let answer = a.answer;
     let room = a.room;
-    match answer {
-        FlowsAnswer::Flows(n) => {
-            let first = line::ok(out, at);
-            let second = line::put_number(n as u64, out, first);
-            let third = put_records(room, at_most_places(n), out, second);
-            line::put_kept(kept(room, n), out, third)
-        }
-        FlowsAnswer::Refused(k) => {
-            let next = line::refused(k, out, at);
-            line::put_kept(kept(room, 0), out, next)
-        }
-    }
+    let n = line::filled(answer);
+    let first = line::put_row(line::flows(answer), out, at);
+    let second = put_records(room, n, out, first);
+    line::put_kept(kept(room, n), out, second)
 }
 
-pub(crate) fn put_flows_after(f: &[u8], out: &mut [u8], at: usize) -> usize {
+pub(crate) fn flows_after(f: &[u8]) -> Records {
     let flows = fields::rest(f, 16);
     let n = flow_count(flows);
-    let k = at_most_places(fields::places(f, 12));
-    put(
-        after(flows_in(flows, n), n, fields::date(f, 0), patterns(), k),
-        out,
-        at,
-    )
+    let k = lent::at_most(fields::places(f, 12), PLACES);
+    after(flows_in(flows, n), n, fields::date(f, 0), patterns(), k)
 }
 
-pub(crate) fn put_rolled(f: &[u8], table: &[u32], out: &mut [u8], at: usize) -> usize {
-    let k = at_most_places(fields::places(f, 74));
-    put(
-        rolled(fields::note(f), fields::float(f, 66), table, patterns(), k),
-        out,
-        at,
+pub(crate) fn rollout(f: &[u8]) -> Records {
+    let mut table = [0u32; 4200];
+    let n = fields::table(fields::rest(f, 78), &mut table);
+    let k = lent::at_most(fields::places(f, 74), PLACES);
+    rolled(
+        fields::note(f),
+        fields::float(f, 66),
+        lent::first_words(&table, n),
+        patterns(),
+        k,
     )
 }

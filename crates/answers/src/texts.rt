@@ -2,49 +2,42 @@
 use crate::fields;
 use crate::lent;
 use crate::line;
-use crate::line::Told;
+use crate::line::Row;
 use day_count_conv::ConventionAnswer;
 use reading::NumberAnswer;
 use reading::SignedAnswer;
 use text::LengthAnswer;
 use time_period::FrequencyAnswer;
 
-fn frequency(a: FrequencyAnswer) -> Told {
+fn frequency(a: FrequencyAnswer) -> Row {
     match a {
-        FrequencyAnswer::Frequency(n) => Told::Number(n as u64),
-        FrequencyAnswer::Refused(k) => Told::Refused(k),
+        FrequencyAnswer::Frequency(n) => line::number(n as u64),
+        FrequencyAnswer::Refused(k) => line::refused(k),
     }
 }
 
-fn code(a: ConventionAnswer) -> Told {
+fn code(a: ConventionAnswer) -> Row {
     match a {
-        ConventionAnswer::Convention(rule) => Told::Number(convention_codes::code_of(rule) as u64),
-        ConventionAnswer::Refused(k) => Told::Refused(k),
+        ConventionAnswer::Convention(rule) => line::number(convention_codes::code_of(rule) as u64),
+        ConventionAnswer::Refused(k) => line::refused(k),
     }
 }
 
-fn number(a: NumberAnswer) -> Told {
+fn number(a: NumberAnswer) -> Row {
     match a {
-        NumberAnswer::Number(n) => Told::Number(n as u64),
-        NumberAnswer::Refused(k) => Told::Refused(k),
+        NumberAnswer::Number(n) => line::number(n as u64),
+        NumberAnswer::Refused(k) => line::refused(k),
     }
 }
 
-fn signed(a: SignedAnswer) -> Told {
+fn signed(a: SignedAnswer) -> Row {
     match a {
-        SignedAnswer::Number(n) => Told::Signed(n),
-        SignedAnswer::Refused(k) => Told::Refused(k),
+        SignedAnswer::Number(n) => line::with_signed(line::ok(), n),
+        SignedAnswer::Refused(k) => line::refused(k),
     }
 }
 
-fn length(a: LengthAnswer) -> Told {
-    match a {
-        LengthAnswer::Length(n) => Told::Number(n as u64),
-        LengthAnswer::Refused(k) => Told::Refused(k),
-    }
-}
-
-fn of_periods(verb: u8, f: &[u8]) -> Told {
+fn of_periods(verb: u8, f: &[u8]) -> Row {
     let p = fields::period(f, 0);
     let t = fields::date(f, 5);
     match verb {
@@ -55,13 +48,13 @@ fn of_periods(verb: u8, f: &[u8]) -> Told {
     }
 }
 
-pub(crate) fn told(verb: u8, f: &[u8]) -> Told {
+pub(crate) fn told(verb: u8, f: &[u8]) -> Row {
     match verb {
         23 => line::period(period_text::read_period(f)),
         31 => line::coupon(coupon_text::read_coupon_date(f)),
         32 => line::coupon(coupon_date::new_coupon_date(fields::word(f, 0), fields::word(f, 4))),
         34 => code(convention_codes::convention_of(fields::word(f, 0))),
-        43 => length(cash_flow_text::cash_flow_length(fields::flow(f, 0))),
+        43 => line::length(cash_flow_text::cash_flow_length(fields::flow(f, 0))),
         55 => number(reading::read_u32(f, paper::INVALID_PERIOD)),
         56 => signed(reading::read_i32(f, paper::INVALID_PERIOD)),
         60 => number(reading::read_decimal(
@@ -69,8 +62,11 @@ pub(crate) fn told(verb: u8, f: &[u8]) -> Told {
             fields::word(f, 0),
             fields::word(f, 4),
         )),
-        70 => length(decimal::decimal_length(fields::float(f, 0))),
-        83 => length(cash_flow_text::amount_length(fields::float(f, 0), fields::currency(f, 8))),
+        70 => line::length(decimal::decimal_length(fields::float(f, 0))),
+        83 => line::length(cash_flow_text::amount_length(
+            fields::float(f, 0),
+            fields::currency(f, 8),
+        )),
         _ => of_periods(verb, f),
     }
 }
@@ -96,19 +92,16 @@ fn write(verb: u8, f: &[u8], room: &mut [u8]) -> LengthAnswer {
     }
 }
 
-fn at_most_64(n: usize) -> usize {
-    if n < 64 { n } else { 64 }
-}
-
 // How many places a verb asks for.
 fn places(verb: u8, f: &[u8]) -> usize {
     match verb {
-        24 => at_most_64(fields::places(f, 5)),
-        33 => at_most_64(fields::places(f, 8)),
+        24 => lent::at_most(fields::places(f, 5), 64),
+        33 => lent::at_most(fields::places(f, 8), 64),
         39 => fields::places(f, 12),
         40 => fields::places(f, 11),
         41 => fields::places(f, 23),
-        65 | 66 => fields::places(f, 4),
+        65 => fields::places(f, 4),
+        66 => fields::places(f, 4),
         68 => fields::places(f, 12),
         _ => fields::places(f, 8),
     }

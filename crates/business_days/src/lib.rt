@@ -10,7 +10,7 @@ pub fn is_business_day(d: Day, table: &[u32]) -> BusinessAnswer
     if !calendar::is_day(d) {
         return BusinessAnswer::Refused(paper::INVALID_DATE);
     }
-    if !holidays::is_table(table) {
+    if !holiday_tables::is_table(table) {
         return BusinessAnswer::Refused(paper::BAD_HOLIDAY_TABLE);
     }
     let i = holidays::first_from(table, d.0);
@@ -24,7 +24,7 @@ pub fn bdays_later(d: Day, k: u32, table: &[u32]) -> DayAnswer
     if !calendar::is_day(d) {
         return DayAnswer::Refused(paper::INVALID_DATE);
     }
-    if !holidays::is_table(table) {
+    if !holiday_tables::is_table(table) {
         return DayAnswer::Refused(paper::BAD_HOLIDAY_TABLE);
     }
     business_walks::later_from(d.0, k, table)
@@ -37,7 +37,7 @@ pub fn bdays_earlier(d: Day, k: u32, table: &[u32]) -> DayAnswer
     if !calendar::is_day(d) {
         return DayAnswer::Refused(paper::INVALID_DATE);
     }
-    if !holidays::is_table(table) {
+    if !holiday_tables::is_table(table) {
         return DayAnswer::Refused(paper::BAD_HOLIDAY_TABLE);
     }
     business_walks::earlier_from(d.0, k, table)

@@ -1,6 +1,7 @@
 // The business days around a day, over a holiday table that is judged: what finql asks of `cal_calc`. The weekend is Saturday and Sunday.
 use calendar::Day;
 use calendar::DayAnswer;
+use calendar::LAST_DAY;
 ghost use mathlib.Core.Path.{_≡_};
 ghost use mathlib.Core.Bool.{true};
 ghost use mathlib.Core.List.{_∷_};
@@ -12,8 +13,6 @@ ghost use Rattle.holidays.specs.Business.{isWeekend, isBusiness, nextFrom, prev
 ghost use Rattle.holidays.specs.Search.{Judged, Splits};
 
 const FIRST_DAY: u32 = 1;
-
-const LAST_DAY: u32 = 3652059;
 
 const WHOLE: u64 = 4294967296;
 

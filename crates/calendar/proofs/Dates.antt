@@ -1,6 +1,6 @@
 -- Dates and serial days: the bounds of a date, and that each is found again from the other.
 -- Assumes nothing.
-use Prim.Native.Nat.{ℕ, suc, _+_, _-_, _≤_, _<_}
+use Prim.Native.Nat.{ℕ, suc, _+_, _-_, _*_, _/_, _≤_, _<_}
 use mathlib.Core.Path.{_≡_, refl, sym, _∙_, ap}
 use mathlib.Core.Bool.{Bool, true, false}
 use native.Mathlib.Omega.{arith}
@@ -12,7 +12,7 @@ use Rattle.calendar.specs.declared.Day.{Day}
 use Rattle.calendar.specs.declared.Date.{Date}
 use Rattle.gregorian.proofs.Months.{is-month, year-of-months, before-first}
 use Rattle.gregorian.proofs.Counting.{before-suc, before-mono, unit-at, unit-in, Falls}
-use Rattle.gregorian.proofs.Years.{last-day, before-one}
+use Rattle.gregorian.proofs.Years.{last-day, before-one, by-rule-of-leaps}
 
 pub record IsDate (t : Date) : Type 0 where
   pub year-from : 1 ≤ t .year
@@ -79,6 +79,11 @@ number-to t h =
 pub number-from : (t : Date) → IsDate t → 1 ≤ dayNumber t
 unfolding dayNumber
 number-from t h = omega arith
+
+-- a date's serial day, without a count of each year before it
+pub number-by-rule : (y m d : ℕ) → 1 ≤ y → dayNumber (record { year = y; month = m; day = d }) ≡ 365 * (y - 1) + (y - 1) / 4 - (y - 1) / 100 + (y - 1) / 400 + beforeMonth y m + d
+unfolding dayNumber
+number-by-rule y m d h = ap (λ (n : ℕ). n + beforeMonth y m + d) (sym (by-rule-of-leaps y h))
 
 -- a date is found again from its serial day
 year-found : (t : Date) → IsDate t → yearOf (dayNumber t) ≡ t .year

@@ -1,19 +1,38 @@
 -- Dates that document 01 names, and the calendar's ends, as theorems about the definitions.
 -- Assumes nothing.
 use Prim.Native.Nat.{ℕ}
-use mathlib.Core.Path.{_≡_, refl}
-use Rattle.paper.specs.Outcome.{given, refused}
-use Rattle.gregorian.specs.Gregorian.{leap, lengthIn, monthLength, yearLength, before, unitOf}
-use Rattle.calendar.specs.Dates.{isDate, isDay, dayNumber, yearOf, inYear, theDate}
+use mathlib.Core.Path.{_≡_, refl, ap}
+use lib.Dec.{lit≤}
+use Rattle.paper.specs.Outcome.{Outcome, given, refused}
+use Rattle.gregorian.specs.Gregorian.{leap, lengthIn, monthLength, before}
+use Rattle.calendar.specs.Dates.{isDate, isDay, dayNumber}
 use Rattle.calendar.specs.Answers.{dayOf, dateOf, weekdayOf}
 use Rattle.calendar.specs.declared.Date.{Date}
 use Rattle.calendar.specs.declared.Day.{Day}
+use Rattle.calendar.proofs.Dates.{number-by-rule}
+use Rattle.calendar.proofs.Inverse.{date-at}
 
 abbrev on : ℕ → ℕ → ℕ → Date
 on y m d = record { year = y; month = m; day = d }
 
 abbrev day : ℕ → Day
 day n = record { 0 = n }
+
+abbrev numbered : ℕ → Outcome Day
+numbered n = given (day n)
+
+-- the serial days of the calendar's ends, and of a Saturday
+pub first-number : dayNumber (on 1 1 1) ≡ 1
+unfolding leap lengthIn monthLength before
+first-number = number-by-rule 1 1 1 (lit≤ tt)
+
+pub last-number : dayNumber (on 9999 12 31) ≡ 3652059
+unfolding leap lengthIn monthLength before
+last-number = number-by-rule 9999 12 31 (lit≤ tt)
+
+pub saturday-number : dayNumber (on 2021 7 31) ≡ 738002
+unfolding leap lengthIn monthLength before
+saturday-number = number-by-rule 2021 7 31 (lit≤ tt)
 
 -- day 1 is 0001-01-01, a Monday; day 3652059 is 9999-12-31; there is none before or after
 pub record Ends : Type 0 where
@@ -28,12 +47,12 @@ pub record Ends : Type 0 where
   pub month-thirteen : dayOf (on 2021 13 1) ≡ refused 1
 
 pub ends : Ends
-unfolding leap lengthIn monthLength yearLength before unitOf isDate isDay dayNumber yearOf inYear theDate dayOf dateOf weekdayOf
+unfolding leap lengthIn monthLength isDate isDay dayOf dateOf weekdayOf
 ends =
     record {
-      first = refl;
+      first = ap numbered first-number;
       monday = refl;
-      last = refl;
+      last = date-at (on 9999 12 31) 3652059 refl last-number;
       before-first = refl;
       past-last = refl;
       year-zero = refl;
@@ -50,8 +69,14 @@ pub record LeapDays : Type 0 where
   pub in-2024 : dayOf (on 2024 2 29) ≡ given (day 738945)
 
 pub leap-days : LeapDays
-unfolding leap lengthIn monthLength yearLength before isDate dayNumber dayOf
-leap-days = record { in-1900 = refl; in-2000 = refl; in-2023 = refl; in-2024 = refl }
+unfolding leap lengthIn monthLength before isDate dayOf
+leap-days =
+    record {
+      in-1900 = refl;
+      in-2000 = ap numbered (number-by-rule 2000 2 29 (lit≤ tt));
+      in-2023 = refl;
+      in-2024 = ap numbered (number-by-rule 2024 2 29 (lit≤ tt));
+    }
 
 -- 2021-07-31 is a Saturday
 pub saturday : weekdayOf (day 738002) ≡ given 6
@@ -59,5 +84,5 @@ unfolding isDay weekdayOf
 saturday = refl
 
 pub its-day : dayOf (on 2021 7 31) ≡ given (day 738002)
-unfolding leap lengthIn monthLength yearLength before isDate dayNumber dayOf
-its-day = refl
+unfolding leap lengthIn monthLength isDate dayOf
+its-day = ap numbered saturday-number

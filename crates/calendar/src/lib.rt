@@ -35,9 +35,9 @@ pub enum WeekdayAnswer {
     Refused(u32),
 }
 
-const LAST_YEAR: u32 = 9999;
+pub const LAST_YEAR: u32 = 9999;
 
-const LAST_DAY: u32 = 3652059;
+pub const LAST_DAY: u32 = 3652059;
 
 pub fn is_date(t: Date) -> bool
     ensures { λ r. ⌜ r ≡ isDate t ⌝ }

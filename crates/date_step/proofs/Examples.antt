@@ -1,13 +1,15 @@
 -- The desk card's steps, and the ends of the signed numbers, as theorems about the definitions.
 -- Assumes nothing.
 use Prim.Native.Nat.{ℕ}
-use mathlib.Core.Path.{_≡_, refl}
-use lib.IntN.{pos, negsuc}
-use Rattle.paper.specs.Outcome.{given, refused}
-use Rattle.gregorian.specs.Gregorian.{leap, lengthIn, monthLength, yearLength, before, unitOf}
-use Rattle.calendar.specs.Dates.{isDate, isDay, dayNumber, yearOf, inYear, theDate, monthDate}
+use mathlib.Core.Path.{_≡_, refl, ap, _∙_}
+use lib.IntN.{ℤ, pos, negsuc, _+ℤ_}
+use Rattle.paper.specs.Outcome.{Outcome, given, refused, andThen}
+use Rattle.gregorian.specs.Gregorian.{leap, lengthIn, monthLength}
+use Rattle.calendar.specs.Dates.{isDate, isDay, monthDate}
 use Rattle.calendar.specs.Answers.{dateOf}
 use Rattle.calendar.specs.declared.Date.{Date}
+use Rattle.calendar.proofs.Examples.{first-number, last-number}
+use Rattle.calendar.proofs.Inverse.{date-at}
 use Rattle.date_step.specs.Steps.{landing, monthsLater, addMonths, existingDate, yearsLater, addYears, daysLater, addDays}
 
 abbrev on : ℕ → ℕ → ℕ → Date
@@ -26,6 +28,10 @@ pub card : Card
 unfolding leap lengthIn monthLength isDate monthDate landing monthsLater addMonths existingDate yearsLater addYears
 card = record { a = refl; b = refl; c = refl; d = refl; f = refl; fifteen-back = refl }
 
+-- so many days later, from a serial day
+abbrev pub onFrom : ℤ → ℕ → Outcome Date
+onFrom n k = andThen (landing 3652059 (pos k +ℤ n)) (λ i. dateOf (record { 0 = i }))
+
 -- the least and the greatest 32-bit number, in every step
 pub record Extremes : Type 0 where
   pub least-months : addMonths (on 9999 12 31) (negsuc 2147483647) ≡ refused 1
@@ -37,16 +43,16 @@ pub record Extremes : Type 0 where
   pub whole-calendar : addDays (on 1 1 1) (pos 3652058) ≡ given (on 9999 12 31)
 
 pub extremes : Extremes
-unfolding leap lengthIn monthLength yearLength before unitOf isDate isDay dayNumber yearOf inYear theDate monthDate dateOf landing monthsLater addMonths existingDate yearsLater addYears daysLater addDays
+unfolding leap lengthIn monthLength isDate landing monthsLater addMonths yearsLater addYears daysLater addDays
 extremes =
     record {
       least-months = refl;
       most-months = refl;
       least-years = refl;
       most-years = refl;
-      least-days = refl;
-      most-days = refl;
-      whole-calendar = refl;
+      least-days = ap (onFrom (negsuc 2147483647)) last-number;
+      most-days = ap (onFrom (pos 2147483647)) first-number;
+      whole-calendar = ap (onFrom (pos 3652058)) first-number ∙ date-at (on 9999 12 31) 3652059 refl last-number;
     }
 
 -- one step past either end
@@ -56,8 +62,8 @@ pub record Past : Type 0 where
   pub a-year : addYears (on 9999 12 31) (pos 1) ≡ refused 1
 
 pub past : Past
-unfolding leap lengthIn monthLength yearLength before isDate dayNumber monthDate landing monthsLater addMonths existingDate yearsLater addYears daysLater addDays
-past = record { a-day = refl; a-month = refl; a-year = refl }
+unfolding leap lengthIn monthLength isDate landing monthsLater addMonths yearsLater addYears daysLater addDays
+past = record { a-day = ap (onFrom (pos 1)) last-number; a-month = refl; a-year = refl }
 
 pub record Before : Type 0 where
   pub a-day : addDays (on 1 1 1) (negsuc 0) ≡ refused 1
@@ -65,5 +71,5 @@ pub record Before : Type 0 where
   pub a-year : addYears (on 1 1 1) (negsuc 0) ≡ refused 1
 
 pub before-all : Before
-unfolding leap lengthIn monthLength yearLength before unitOf isDate isDay dayNumber yearOf inYear theDate dateOf monthDate landing monthsLater addMonths existingDate yearsLater addYears daysLater addDays
-before-all = record { a-day = refl; a-month = refl; a-year = refl }
+unfolding leap lengthIn monthLength isDate isDay dateOf landing monthsLater addMonths existingDate yearsLater addYears daysLater addDays
+before-all = record { a-day = ap (onFrom (negsuc 0)) first-number; a-month = refl; a-year = refl }

@@ -9,8 +9,7 @@ ghost use Rattle.calendar.specs.Answers.{dateOutcome};
 ghost use Rattle.date_step.specs.Steps.{placeOutcome, landing, monthsLater, existingDate, yearsLater, daysLater, AddMonthsPromise, AddYearsPromise, AddDaysPromise};
 use calendar::Date;
 use calendar::DateAnswer;
-
-const LAST_YEAR: u32 = 9999;
+use calendar::LAST_YEAR;
 
 const LAST_DAY_INDEX: u32 = 3652058;
 

@@ -1,20 +1,29 @@
 -- The desk card's l, and the ends of the calendar, as theorems about the definitions.
 -- Assumes nothing.
 use Prim.Native.Nat.{ℕ}
-use mathlib.Core.Path.{_≡_, refl}
+use mathlib.Core.Path.{_≡_, refl, ap, _∙_}
 use mathlib.Core.List.{List, [], _∷_}
-use Rattle.paper.specs.Outcome.{given, refused}
-use Rattle.calendar.specs.Dates.{isDate, isDay, dayNumber, yearOf, inYear, theDate}
-use Rattle.calendar.specs.Answers.{dateOf, weekdayOf}
+use lib.Dec.{eqb, lit≤}
+use Rattle.paper.specs.Outcome.{Outcome, given, refused, andThen, pick}
+use Rattle.calendar.specs.Dates.{isDate, isDay}
+use Rattle.calendar.specs.Answers.{weekdayOf}
 use Rattle.calendar.specs.declared.Date.{Date}
-use Rattle.gregorian.specs.Gregorian.{leap, lengthIn, monthLength, yearLength, before, unitOf}
+use Rattle.calendar.proofs.Dates.{number-by-rule}
+use Rattle.calendar.proofs.Inverse.{date-at}
+use Rattle.calendar.proofs.Examples.{first-number, last-number, saturday-number}
+use Rattle.gregorian.specs.Gregorian.{leap, lengthIn, monthLength, before}
 use Rattle.holidays.specs.Table.{ascendsFrom, isTable, listed}
 use Rattle.holidays.specs.Business.{isWeekend, isBusiness, firstOf, nextFrom, lastOf, prevFrom}
-use Rattle.day_adjust.specs.Adjustment.{nextDate, prevDate, modifiedDate, adjusted, adjustDate}
+use Rattle.day_adjust.specs.Adjustment.{nextDate, prevDate, modifiedDate, movedDate, adjusted, adjustDate}
+use Rattle.day_adjust.specs.declared.DayAdjust.{DayAdjust}
 use Rattle.day_adjust.specs.declared.DayAdjust.the-variants as rule
 
 abbrev on : ℕ → ℕ → ℕ → Date
 on y m d = record { year = y; month = m; day = d }
+
+-- where a date with the serial day n moves
+abbrev movedFrom : DayAdjust → Date → List ℕ → ℕ → Outcome Date
+movedFrom r t table n = pick (isBusiness table n) (given t) (movedDate r t n table)
 
 pub record Card : Type 0 where
   pub l : adjustDate rule.Modified (on 2021 7 31) [] ≡ given (on 2021 7 30)
@@ -23,8 +32,19 @@ pub record Card : Type 0 where
   pub none : adjustDate rule.None (on 2021 7 31) [] ≡ given (on 2021 7 31)
 
 pub card : Card
-unfolding leap lengthIn monthLength yearLength before unitOf isDate isDay dayNumber yearOf inYear theDate dateOf weekdayOf ascendsFrom isTable listed isWeekend isBusiness firstOf nextFrom lastOf prevFrom nextDate prevDate modifiedDate adjusted adjustDate
-card = record { l = refl; following = refl; preceding = refl; none = refl }
+unfolding leap lengthIn monthLength before isDate isDay weekdayOf ascendsFrom isTable listed isWeekend isBusiness firstOf nextFrom lastOf prevFrom nextDate prevDate modifiedDate adjusted adjustDate
+card =
+    let friday = date-at (on 2021 7 30) 738001 refl (number-by-rule 2021 7 30 (lit≤ tt)) in
+    let monday = date-at (on 2021 8 2) 738004 refl (number-by-rule 2021 8 2 (lit≤ tt)) in
+    record {
+      l =
+          ap (movedFrom rule.Modified (on 2021 7 31) []) saturday-number
+          ∙ ap (λ (o : Outcome Date). andThen o (λ u. pick (eqb (u .month) 7) (given u) (prevDate [] 738002))) monday
+          ∙ friday;
+      following = ap (movedFrom rule.Following (on 2021 7 31) []) saturday-number ∙ monday;
+      preceding = ap (movedFrom rule.Preceding (on 2021 7 31) []) saturday-number ∙ friday;
+      none = ap (movedFrom rule.None (on 2021 7 31) []) saturday-number;
+    }
 
 -- 9999-12-31 listed: following and modified look ahead and refuse; preceding and none do not
 abbrev lastListed : List ℕ
@@ -37,8 +57,16 @@ pub record LastDay : Type 0 where
   pub none : adjustDate rule.None (on 9999 12 31) lastListed ≡ given (on 9999 12 31)
 
 pub last-day : LastDay
-unfolding leap lengthIn monthLength yearLength before unitOf isDate isDay dayNumber yearOf inYear theDate dateOf weekdayOf ascendsFrom isTable listed isWeekend isBusiness firstOf nextFrom lastOf prevFrom nextDate prevDate modifiedDate adjusted adjustDate
-last-day = record { following = refl; modified = refl; preceding = refl; none = refl }
+unfolding leap lengthIn monthLength before isDate isDay weekdayOf ascendsFrom isTable listed isWeekend isBusiness firstOf nextFrom lastOf prevFrom nextDate prevDate modifiedDate adjusted adjustDate
+last-day =
+    record {
+      following = ap (movedFrom rule.Following (on 9999 12 31) lastListed) last-number;
+      modified = ap (movedFrom rule.Modified (on 9999 12 31) lastListed) last-number;
+      preceding =
+          ap (movedFrom rule.Preceding (on 9999 12 31) lastListed) last-number
+          ∙ date-at (on 9999 12 30) 3652058 refl (number-by-rule 9999 12 30 (lit≤ tt));
+      none = ap (movedFrom rule.None (on 9999 12 31) lastListed) last-number;
+    }
 
 -- the order: no such date before the table, the table also under none
 pub record Order : Type 0 where
@@ -47,5 +75,10 @@ pub record Order : Type 0 where
   pub first-day : adjustDate rule.Preceding (on 1 1 1) (1 ∷ []) ≡ refused 1
 
 pub order : Order
-unfolding leap lengthIn monthLength yearLength before unitOf isDate isDay dayNumber yearOf inYear theDate dateOf weekdayOf ascendsFrom isTable listed isWeekend isBusiness firstOf nextFrom lastOf prevFrom nextDate prevDate modifiedDate adjusted adjustDate
-order = record { date-first = refl; table-under-none = refl; first-day = refl }
+unfolding leap lengthIn monthLength before isDate isDay weekdayOf ascendsFrom isTable listed isWeekend isBusiness lastOf prevFrom prevDate adjusted adjustDate
+order =
+    record {
+      date-first = refl;
+      table-under-none = refl;
+      first-day = ap (movedFrom rule.Preceding (on 1 1 1) (1 ∷ [])) first-number;
+    }

@@ -130,7 +130,7 @@ pub fn adjust_date(rule: DayAdjust, t: Date, table: &[u32]) -> DateAnswer
         return DateAnswer::Refused(paper::INVALID_DATE);
     }
     let n = march_years::number_of(t);
-    let i = holidays::place_in(table, n);
+    let i = holiday_tables::place_in(table, n);
     if holidays::NOWHERE <= i {
         return DateAnswer::Refused(paper::BAD_HOLIDAY_TABLE);
     }

@@ -1,18 +1,18 @@
 -- The desk card's fractions, and cases that a trainee gets wrong, as theorems about the definitions; each f64 by its pattern.
 -- Assumes nothing.
-use Prim.Native.Nat.{ℕ, _+_, _-_, _*_, _/_, _^_, _≤_}
+use Prim.Native.Nat.{ℕ, _+_, _-_, _*_, _^_}
 use native.Mathlib.Nat.{not-le-of-lt}
-use mathlib.Core.Path.{_≡_, refl, sym, ap, ap₂, subst}
+use mathlib.Core.Path.{_≡_, refl, ap₂, subst}
 use mathlib.Core.Bool.{true, false}
 use lib.IntN.{ℤ, pos}
-use lib.Dec.{lit<, lit≤}
+use lib.Dec.{lit<}
 use lib.Ieee.{Float, binary64, add, sub, div, ofInt, ofBits}
 use Rattle.rounding.specs.Close.{Close}
 use Rattle.gregorian.specs.Gregorian.{leap, lengthIn, monthLength, yearLength, before, beforeMonth}
-use Rattle.gregorian.proofs.Years.{by-rule-of-leaps}
-use Rattle.calendar.specs.Dates.{isDate, dayNumber, isSame}
+use Rattle.calendar.specs.Dates.{isDate, isSame}
 use Rattle.calendar.specs.declared.Date.{Date}
 use Rattle.calendar.proofs.Dates.{date-yes}
+use Rattle.calendar.proofs.Examples.{first-number, last-number}
 use Rattle.day_fraction.specs.Exact.{Exact, difference}
 use Rattle.day_fraction.specs.Fractions.{exactFraction, bits, impossible, over, leapYears, leapBits, sinceJanuary}
 use Rattle.day_fraction.specs.declared.SimpleRule.the-variants.{Act365, Act360, Act365l, D30_360, D30E360}
@@ -27,11 +27,7 @@ fraction n d = record { num = n; den = d }
 abbrev pattern : ℕ → Float
 pattern n = ofBits binary64 n
 
--- the days of a date, and those since its 1 January, without a count of each year before it
-number : (y m d : ℕ) → 1 ≤ y → dayNumber (on y m d) ≡ 365 * (y - 1) + (y - 1) / 4 - (y - 1) / 100 + (y - 1) / 400 + beforeMonth y m + d
-unfolding dayNumber
-number y m d h = ap (λ (n : ℕ). n + beforeMonth y m + d) (sym (by-rule-of-leaps y h))
-
+-- the days since a date's 1 January, without a count of each year before it
 since : (y m d : ℕ) → isDate (on y m d) ≡ true → sinceJanuary (on y m d) ≡ beforeMonth y m + d - 1
 since y m d h = since-is (on y m d) (date-yes (on y m d) h)
 
@@ -82,15 +78,13 @@ pub record Whole : Type 0 where
 pub whole-calendar : Whole
 unfolding leap lengthIn monthLength yearLength before isDate exactFraction bits add sub div ofInt ofBits
 whole-calendar =
-    let first = number 1 1 1 (lit≤ tt) in
-    let last = number 9999 12 31 (lit≤ tt) in
     let s = since 1 1 1 refl in
     let e = since 9999 12 31 refl in
     record {
-      act-365 = ap₂ (λ (a b : ℕ). fraction (difference b a) 365) first last;
-      act-365-bits = ap₂ (λ (a b : ℕ). over (difference b a) 365) first last;
-      act-360 = ap₂ (λ (a b : ℕ). fraction (difference b a) 360) first last;
-      act-360-bits = ap₂ (λ (a b : ℕ). over (difference b a) 360) first last;
+      act-365 = ap₂ (λ (a b : ℕ). fraction (difference b a) 365) first-number last-number;
+      act-365-bits = ap₂ (λ (a b : ℕ). over (difference b a) 365) first-number last-number;
+      act-360 = ap₂ (λ (a b : ℕ). fraction (difference b a) 360) first-number last-number;
+      act-360-bits = ap₂ (λ (a b : ℕ). over (difference b a) 360) first-number last-number;
       act-365-leap = ap₂ (λ (a b : ℕ). leapYears (pos 9998) b 365 a 365) s e;
       act-365-leap-bits = ap₂ (λ (a b : ℕ). leapBits (pos 9998) b 365 a 365) s e;
       thirty = refl;

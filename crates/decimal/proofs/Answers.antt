@@ -11,8 +11,8 @@ use Rattle.paper.specs.Outcome.{given, refused, unless}
 use Rattle.paper.proofs.Outcomes.{given-injective, refused-injective, given-not-refused, unless-given}
 use Rattle.text.specs.Writing.{Wrote}
 use Rattle.text.proofs.Writers.{written-fits, written-refused}
+use Rattle.four_decimals.specs.Pieces.{signedDecimals}
 use Rattle.decimal.specs.Decimal.{isMinus, tenThousandths, decimalText16, decimalLength, decimalWritten, decimalBytes}
-use Rattle.decimal.specs.Parts.{signedDecimals}
 
 pub text-is : (x : Float) (s : Bool) (t : ℕ) → s ≡ isMinus x → t ≡ tenThousandths x → signedDecimals s t ≡ decimalText16 x
 unfolding decimalText16

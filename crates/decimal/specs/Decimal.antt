@@ -1,9 +1,9 @@
 -- An f64 as text: four decimals, rounded from the exact value, an exact half to the even digit, in at least 16 columns.
 -- Assumes nothing.
-use Prim.Native.Nat.{ℕ, _*_, _/_}
+use Prim.Native.Nat.{ℕ, _*_}
 use mathlib.Core.Path.{_≡_}
 use mathlib.Core.Bool.{Bool, false}
-use mathlib.Core.List.{List, _∷_, _++_}
+use mathlib.Core.List.{List, _++_}
 use lib.ListN.{length}
 use lib.IntN.{natAbs}
 use lib.Ieee.{Float, nan, inf, fin}
@@ -11,8 +11,9 @@ use lib.Ieee.Nearest.{closest}
 use lib.Ieee.Scale.{finite}
 use Rattle.paper.specs.Outcome.{Outcome, given, unless, pick}
 use Rattle.rounding.specs.Close.{numerator, denominator}
-use Rattle.text.specs.Writing.{digits, decimalText, signText, rightAligned, writtenLength, writtenBytes, lengthOutcome}
+use Rattle.text.specs.Writing.{signText, rightAligned, writtenLength, writtenBytes, lengthOutcome}
 use Rattle.text.specs.declared.LengthAnswer.{LengthAnswer}
+unfoldable pub use Rattle.four_decimals.specs.FourDecimals.{fourDecimals}
 
 -- the sign, which a zero has too
 abbrev pub isMinus : Float → Bool
@@ -24,10 +25,6 @@ isMinus (fin s m e) = s
 -- whole number, and from exactly half way to the even one
 unfoldable pub tenThousandths : Float → ℕ
 tenThousandths x = closest (natAbs (numerator x) * 10000) (denominator x)
-
--- a number of ten-thousandths: the whole part, a point, and four decimals
-unfoldable pub fourDecimals : ℕ → List ℕ
-fourDecimals t = decimalText (t / 10000) ++ (46 ∷ digits 4 t)
 
 -- the sign, kept even for a zero, and the four decimals, right-aligned in at least 16 columns
 unfoldable pub decimalText16 : Float → List ℕ

@@ -20,14 +20,13 @@ pub use hand_over_dates::hand_date;
 pub use hand_over_dates::hand_day;
 pub use hand_over_dates::hand_days;
 pub use hand_over_dates::hand_weekday;
+use hand_over_plain::ANSWERED;
 pub use hand_over_plain::hand_length;
 pub use hand_over_plain::hand_yes_no;
 use holidays::BusinessAnswer;
 use rates::FactorAnswer;
 use time_period::FrequencyAnswer;
 use time_period::PeriodAnswer;
-
-const ANSWERED: u32 = 0;
 
 // Inner: for `exports`.
 pub fn hand_business(a: BusinessAnswer, yes: &mut u32) -> u32

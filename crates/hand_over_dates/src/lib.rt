@@ -9,8 +9,7 @@ use calendar::DayAnswer;
 use calendar::DaysAnswer;
 use calendar::WeekdayAnswer;
 use coupon_date::CouponAnswer;
-
-const ANSWERED: u32 = 0;
+use hand_over_plain::ANSWERED;
 
 // Inner: for `exports`.
 pub fn hand_day(a: DayAnswer, serial: &mut u32) -> u32

@@ -5,7 +5,7 @@ ghost use Rattle.text.specs.Writing.{lengthOutcome};
 ghost use Rattle.hand_over_plain.specs.HandOver.{HandsOver, yesNo};
 use text::LengthAnswer;
 
-const ANSWERED: u32 = 0;
+pub const ANSWERED: u32 = 0;
 
 // 1 is yes and 0 is no.
 fn number_of(b: bool) -> u32

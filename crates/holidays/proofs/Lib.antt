@@ -1,5 +1,4 @@
 pub mod Table
-pub mod Counted
 pub mod Places
 pub mod Steps
 pub mod Days

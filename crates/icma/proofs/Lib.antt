@@ -1,5 +1,4 @@
-pub mod Walking
+pub mod Steps
 pub mod Sizes
 pub mod Laws
-pub mod Leaps
 pub mod Numbered

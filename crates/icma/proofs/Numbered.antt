@@ -10,8 +10,9 @@ use Rattle.calendar.specs.Dates.{isBefore, dayNumber}
 use Rattle.calendar.specs.declared.Date.{Date}
 use Rattle.time_period.specs.declared.TimePeriod.{TimePeriod}
 use Rattle.time_period.proofs.OneOutcome.{step-numbered}
-use Rattle.icma.specs.Walk.{step, negated, walk, from, turnOn, walkOn, turnBack, walkBack, baseFrom, shortParts, firstPart, lastPart, toLast, toEnd, toFirst, longParts, partsFrom, icmaParts}
-use Rattle.icma.specs.declared.Walked.{Walked}
+use Rattle.icma_walks.specs.Walks.{from}
+use Rattle.icma.specs.Walk.{step, negated, walk, turnOn, walkOn, turnBack, walkBack, baseFrom, shortParts, firstPart, lastPart, toLast, toEnd, toFirst, longParts, partsFrom, icmaParts}
+use Rattle.icma_walks.specs.declared.Walked.{Walked}
 use Rattle.icma.specs.declared.Broken.{Broken}
 use Rattle.icma.specs.declared.Broken.the-variants.{Nothing}
 

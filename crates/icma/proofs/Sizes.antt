@@ -18,11 +18,12 @@ use Rattle.calendar.proofs.Dates.{IsDate, date-yes, number-to}
 use Rattle.calendar.proofs.Order.{before-days, index-to}
 use Rattle.gregorian.specs.Gregorian.{beforeYear, beforeMonth}
 use Rattle.time_period.specs.Steps.{absent, unitStep}
-use Rattle.icma.specs.Walk.{step, negated, walk, from, turnOn, walkOn, turnBack, walkBack, baseFrom, shortParts, firstPart, lastPart, toLast, toEnd, toFirst, longParts, partsFrom, icmaParts}
+use Rattle.icma_walks.specs.Walks.{from}
+use Rattle.icma.specs.Walk.{step, negated, walk, turnOn, walkOn, turnBack, walkBack, baseFrom, shortParts, firstPart, lastPart, toLast, toEnd, toFirst, longParts, partsFrom, icmaParts}
 use Rattle.time_period.specs.declared.TimePeriod.{TimePeriod}
 use Rattle.time_period.specs.declared.TimePeriodUnit.{TimePeriodUnit}
 use Rattle.time_period.specs.declared.TimePeriodUnit.the-variants.{Daily, BusinessDaily, Weekly, Monthly, Annual}
-use Rattle.icma.specs.declared.Walked.{Walked}
+use Rattle.icma_walks.specs.declared.Walked.{Walked}
 use Rattle.icma.specs.declared.Broken.{Broken}
 use Rattle.icma.specs.declared.Broken.the-variants.{Nothing, Part}
 use Rattle.icma.specs.declared.Parts.{Parts}
@@ -30,7 +31,8 @@ use Rattle.icma.specs.declared.Parts.the-variants.{Short, Long}
 use Rattle.gregorian.proofs.Months.{at-most}
 use Rattle.time_period.proofs.Steps.{months-step, years-step}
 use Rattle.time_period.proofs.Frequencies.{monthsIn}
-use Rattle.icma.proofs.Walking.{LastTurn, none-made, made, last-turn, walk-keeps, walk-ends, ahead, behind, turn-on-leads, turn-back-leads, on-ends, back-ends, step-later, step-earlier, negated-below}
+use Rattle.icma_walks.proofs.Walking.{LastTurn, none-made, made, last-turn, walk-keeps, walk-ends, ahead, behind, turn-on-leads, turn-back-leads, on-ends, back-ends}
+use Rattle.icma.proofs.Steps.{step-later, step-earlier, negated-below}
 
 -- two dates of one month are at most 30 days apart
 same-month : (t u : Date) → IsDate t → IsDate u → monthIndex t ≡ monthIndex u → dayNumber t ≤ dayNumber u + 30

@@ -1,27 +1,17 @@
-// The walk of Act/Act ICMA: from the roll date, period by period, to the whole periods and the broken parts between two dates.
+// Act/Act ICMA: the whole periods and the broken parts between two dates, by walks from the roll date.
 ghost use mathlib.Core.Path.{_≡_};
 ghost use mathlib.Core.Bool.{true};
-ghost use Prim.Native.Nat.{_+_, _-_, _<_, _≤_};
+ghost use Prim.Native.Nat.{_-_, _≤_};
 ghost use lib.IntN.{pos, _-ℤ_};
 ghost use lib.Signed.{ltZ};
-ghost use Rattle.calendar.specs.Dates.{isDate, isBefore, dayNumber, monthIndex, monthDate};
-ghost use Rattle.icma.specs.Walk.{step, walkOutcome, brokenOutcome, partsOutcome, walk, turnOn, turnBack, baseFrom, shortParts, firstPart, lastPart, toLast, toEnd, toFirst, longParts, partsFrom, icmaParts};
-ghost use Rattle.icma.specs.Leaps.{isUncut, leapOn, leapBack, leadsTo};
+ghost use Rattle.calendar.specs.Dates.{isDate, dayNumber};
+ghost use Rattle.icma.specs.Walk.{step, brokenOutcome, partsOutcome, shortParts, firstPart, lastPart, toLast, toEnd, toFirst, longParts, partsFrom, icmaParts};
+ghost use Rattle.icma.specs.Leads.{leadsTo};
 use calendar::Date;
 use calendar::DateAnswer;
+use icma_walks::WalkAnswer;
+use icma_walks::Walked;
 use time_period::TimePeriod;
-use time_period::TimePeriodUnit;
-
-// Where a walk stands, and how many of the dates it reached count.
-pub struct Walked {
-    pub at: Date,
-    pub count: u32,
-}
-
-pub enum WalkAnswer {
-    Walked(Walked),
-    Refused(u32),
-}
 
 // A period that the start or the end cuts: some days over the period's length. The days may be negative.
 pub enum Broken {
@@ -43,161 +33,6 @@ pub enum Parts {
 pub enum PartsAnswer {
     Parts(Parts),
     Refused(u32),
-}
-
-// One step on; the date reached counts unless it is past the limit.
-fn turn_on(p: TimePeriod, w: Walked, limit: Date) -> WalkAnswer
-    requires { ⌜ (isDate (w .at) ≡ true) × (w .count < 3652060) ⌝ }
-    ensures { λ r. ⌜ walkOutcome r ≡ turnOn p limit w ⌝ }
-{
-    let n = w.count;
-    match time_period::step(p, w.at) {
-        DateAnswer::Date(u) => {
-            if calendar::is_before(limit, u) {
-                return WalkAnswer::Walked(Walked { at: u, count: n });
-            }
-            WalkAnswer::Walked(Walked {
-                at: u,
-                count: n + 1,
-            })
-        }
-        DateAnswer::Refused(k) => WalkAnswer::Refused(k),
-    }
-}
-
-// One step back, by the negated period; the date reached counts unless it is before the limit.
-fn turn_back(q: TimePeriod, w: Walked, limit: Date) -> WalkAnswer
-    requires { ⌜ (isDate (w .at) ≡ true) × (w .count < 3652060) ⌝ }
-    ensures { λ r. ⌜ walkOutcome r ≡ turnBack q limit w ⌝ }
-{
-    let n = w.count;
-    match time_period::step(q, w.at) {
-        DateAnswer::Date(u) => {
-            if calendar::is_before(u, limit) {
-                return WalkAnswer::Walked(Walked { at: u, count: n });
-            }
-            WalkAnswer::Walked(Walked {
-                at: u,
-                count: n + 1,
-            })
-        }
-        DateAnswer::Refused(k) => WalkAnswer::Refused(k),
-    }
-}
-
-// Whether no step of a period cuts the day: months, from a day that every month has.
-fn is_uncut(p: TimePeriod, t: Date) -> bool
-    ensures { λ r. ⌜ r ≡ isUncut p t ⌝ }
-{
-    let unit = p.unit;
-    match unit {
-        TimePeriodUnit::Daily => false,
-        TimePeriodUnit::BusinessDaily => false,
-        TimePeriodUnit::Weekly => false,
-        TimePeriodUnit::Monthly => t.day <= 28,
-        TimePeriodUnit::Annual => false,
-    }
-}
-
-// The number of a date's month, counted from January of year 1.
-fn month_index(t: Date) -> u32
-    requires { ⌜ isDate t ≡ true ⌝ }
-    ensures { λ r. ⌜ r ≡ monthIndex t ⌝ }
-{
-    12 * (t.year - 1) + (t.month - 1)
-}
-
-// A day that every month has, of a month by its number.
-fn uncut_date(index: u32, day: u32) -> Date
-    requires { ⌜ (index ≤ 119987) × (1 ≤ day) × (day ≤ 28) ⌝ }
-    ensures { λ r. ⌜ r ≡ monthDate index day ⌝ }
-{
-    let year = index / 12 + 1;
-    let month = index % 12 + 1;
-    Date { year, month, day }
-}
-
-// Many steps at once, up to the last that leads to an earlier month than the limit's: each of their dates counts.
-fn leap_on(p: TimePeriod, from: Date, limit: Date) -> Walked
-    requires { ⌜ (isDate from ≡ true) × (isDate limit ≡ true) × (ltZ (pos 0) (p .num) ≡ true) ⌝ }
-    ensures { λ r. ⌜ r ≡ leapOn p limit from ⌝ }
-{
-    if !is_uncut(p, from) {
-        return Walked { at: from, count: 0 };
-    }
-    let here = month_index(from);
-    let there = month_index(limit);
-    if there <= here {
-        return Walked { at: from, count: 0 };
-    }
-    let months = text::magnitude(p.num);
-    let count = (there - here - 1) / months;
-    let at = uncut_date(here + count * months, from.day);
-    Walked { at, count }
-}
-
-// Back the same way, up to the last that leads to a later month than the limit's.
-fn leap_back(q: TimePeriod, from: Date, limit: Date) -> Walked
-    requires { ⌜ (isDate from ≡ true) × (isDate limit ≡ true) × (ltZ (q .num) (pos 0) ≡ true) ⌝ }
-    ensures { λ r. ⌜ r ≡ leapBack q limit from ⌝ }
-{
-    if !is_uncut(q, from) {
-        return Walked { at: from, count: 0 };
-    }
-    let here = month_index(from);
-    let there = month_index(limit);
-    if here <= there {
-        return Walked { at: from, count: 0 };
-    }
-    let months = text::magnitude(q.num);
-    let count = (here - there - 1) / months;
-    let at = uncut_date(here - count * months, from.day);
-    Walked { at, count }
-}
-
-// On until not before the limit.
-fn walk_on(p: TimePeriod, from: Walked, limit: Date) -> WalkAnswer
-    requires { ⌜ (isDate (from .at) ≡ true) × (from .count ≤ dayNumber (from .at)) × (ltZ (pos 0) (p .num) ≡ true) ⌝ }
-    ensures { λ r. ⌜ walkOutcome r ≡ walk 3652060 (λ u. isBefore u limit) (turnOn p limit) from ⌝ }
-{
-    let mut w = from;
-    while calendar::is_before(w.at, limit) {
-        match turn_on(p, w, limit) {
-            WalkAnswer::Walked(v) => {
-                w = v;
-            }
-            WalkAnswer::Refused(k) => return WalkAnswer::Refused(k),
-        }
-    }
-    WalkAnswer::Walked(w)
-}
-
-// Back until not after the limit.
-fn walk_back(q: TimePeriod, from: Walked, limit: Date) -> WalkAnswer
-    requires { ⌜ (isDate (from .at) ≡ true) × (from .count + dayNumber (from .at) ≤ 3652059) × (ltZ (q .num) (pos 0) ≡ true) ⌝ }
-    ensures { λ r. ⌜ walkOutcome r ≡ walk 3652060 (λ u. isBefore limit u) (turnBack q limit) from ⌝ }
-{
-    let mut w = from;
-    while calendar::is_before(limit, w.at) {
-        match turn_back(q, w, limit) {
-            WalkAnswer::Walked(v) => {
-                w = v;
-            }
-            WalkAnswer::Refused(k) => return WalkAnswer::Refused(k),
-        }
-    }
-    WalkAnswer::Walked(w)
-}
-
-// From the roll date: on while before start, then back while after end. It may lie far from both, so that these walks leap first.
-fn base_from(p: TimePeriod, q: TimePeriod, start: Date, end: Date, roll: Date) -> WalkAnswer
-    requires { ⌜ (isDate start ≡ true) × (isDate end ≡ true) × (isDate roll ≡ true) × (ltZ (pos 0) (p .num) ≡ true) × (ltZ (q .num) (pos 0) ≡ true) ⌝ }
-    ensures { λ r. ⌜ walkOutcome r ≡ baseFrom p q start end roll ⌝ }
-{
-    match walk_on(p, leap_on(p, roll, start), start) {
-        WalkAnswer::Walked(a) => walk_back(q, leap_back(q, a.at, end), end),
-        WalkAnswer::Refused(k) => WalkAnswer::Refused(k),
-    }
 }
 
 // The difference of two serial days, which may be negative.
@@ -282,7 +117,7 @@ fn to_end(
     requires { ⌜ (isDate end ≡ true) × (isDate base ≡ true) × (ltZ (pos 0) (p .num) ≡ true) × (ltZ (q .num) (pos 0) ≡ true) × (count ≤ 3652060) ⌝ }
     ensures { λ r. ⌜ partsOutcome r ≡ toEnd p q end base count first ⌝ }
 {
-    match walk_on(p, Walked { at: base, count: 0 }, end) {
+    match icma_walks::walk_on(p, Walked { at: base, count: 0 }, end) {
         WalkAnswer::Walked(e) => to_last(q, end, first, count, e),
         WalkAnswer::Refused(k) => PartsAnswer::Refused(k),
     }
@@ -309,7 +144,7 @@ fn long_parts(p: TimePeriod, q: TimePeriod, start: Date, end: Date, base: Date) 
     requires { ⌜ (isDate start ≡ true) × (isDate end ≡ true) × (isDate base ≡ true) × (ltZ (pos 0) (p .num) ≡ true) × (ltZ (q .num) (pos 0) ≡ true) ⌝ }
     ensures { λ r. ⌜ partsOutcome r ≡ longParts p q start end base ⌝ }
 {
-    match walk_back(q, Walked { at: base, count: 0 }, start) {
+    match icma_walks::walk_back(q, Walked { at: base, count: 0 }, start) {
         WalkAnswer::Walked(b) => to_first(p, q, start, end, base, b),
         WalkAnswer::Refused(k) => PartsAnswer::Refused(k),
     }
@@ -332,7 +167,7 @@ fn walked_parts(p: TimePeriod, start: Date, end: Date, roll: Date) -> PartsAnswe
     let n = p.num;
     let unit = p.unit;
     let q = TimePeriod { num: -n, unit };
-    match base_from(p, q, start, end, roll) {
+    match icma_walks::base_from(p, q, start, end, roll) {
         WalkAnswer::Walked(b) => parts_from(p, q, start, end, b),
         WalkAnswer::Refused(k) => PartsAnswer::Refused(k),
     }

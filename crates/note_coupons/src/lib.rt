@@ -2,12 +2,11 @@
 use bond::Note;
 use calendar::Date;
 use calendar::DateAnswer;
+use calendar::LAST_YEAR;
 use coupon_date::CouponDate;
 ghost use mathlib.Core.Path.{_≡_};
 ghost use Rattle.calendar.specs.Answers.{dateOutcome};
 ghost use Rattle.bond.specs.Notes.{inYearOf, interestOn, nominalOf, couponAmount, FirstEndPromise};
-
-const LAST_YEAR: u32 = 9999;
 
 fn in_year_of(year: u32, coupon: CouponDate) -> DateAnswer
     ensures { λ r. ⌜ dateOutcome r ≡ inYearOf year coupon ⌝ }

@@ -1,3 +1,4 @@
 pub mod Flows
 pub mod Dues
 pub mod Collecting
+pub mod Judging

@@ -7,11 +7,12 @@ use lib.Ieee.{Float}
 use Rattle.paper.specs.Outcome.{Outcome, given, refused, andThen}
 use Rattle.calendar.specs.Dates.{isBefore, dayNumber}
 use Rattle.calendar.specs.declared.Date.{Date}
+use Rattle.holidays.specs.Table.{isTable}
 use Rattle.day_adjust.specs.Adjustment.{adjusted}
 use Rattle.time_period.specs.Steps.{absent, stepped}
 use Rattle.day_count_conv.specs.Conventions.{inBits, rolledFrom, yearFraction}
 use Rattle.cash_flow.specs.declared.CashFlow.{CashFlow}
-use Rattle.bond.specs.Notes.{firstCouponEnd, nominalOf, couponAmount}
+use Rattle.bond.specs.Notes.{isPosition, noteChecks, firstCouponEnd, nominalOf, couponAmount}
 use Rattle.bond.specs.declared.Note.{Note}
 
 -- an amount is paid on the adjusted date
@@ -43,6 +44,10 @@ unfoldable pub noteFlows : Note → Float → List ℕ → Outcome (List CashFlo
 noteFlows n position table =
     andThen (firstCouponEnd n)
     (λ end. followed (couponFlow n position table (n .«issue_date») end end) (flowsAfter 3652059 n position table end))
+
+-- the note's checks, then flow by flow
+unfoldable pub cashFlows : Note → Float → List ℕ → Outcome (List CashFlow)
+cashFlows n position table = andThen (noteChecks (isPosition position) (isTable table) n) (λ m. noteFlows m position table)
 
 -- the serial day that a flow is paid on, and its amount
 abbrev pub dayOf : CashFlow → ℕ

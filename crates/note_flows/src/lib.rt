@@ -17,6 +17,9 @@ use cash_flow::FlowsAnswer;
 use coupon_dues::Due;
 use coupon_dues::Owed;
 
+// How many flows a first pass keeps for a second: 21 years of months. There is no heap, and more would cost a short note too much to clear.
+pub const KEPT: usize = 256;
+
 // One step: a flow's serial day and the flow with what is due after it, a refusal, or the end.
 pub enum Step {
     Pay(u32, CashFlow, Due),

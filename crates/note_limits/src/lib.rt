@@ -9,7 +9,7 @@ pub struct NoteNumber {
 }
 
 // From these bits on a number has its sign bit set or is not finite.
-const NO_RATE: u64 = 0x7ff0_0000_0000_0000;
+pub const NO_RATE: u64 = 0x7ff0_0000_0000_0000;
 
 // 1 to 10 digits, and no digit that does not fit in them.
 pub fn is_note_number(number: NoteNumber) -> bool

@@ -1,4 +1,2 @@
-pub mod Lines
 pub mod Notes
 pub mod OneOutcome
-pub mod Examples

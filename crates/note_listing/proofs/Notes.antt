@@ -32,9 +32,12 @@ use Rattle.packed.specs.declared.PackedNote.{PackedNote}
 use Rattle.packed.specs.declared.PackedAnswer.{PackedAnswer}
 use Rattle.packed.specs.declared.PackedAnswer.the-variants as packed-answer
 use Rattle.packed.proofs.Reading.{bytes-given, few-days}
-use Rattle.note_listing.specs.Listing.{linesOf, one, noteLines, answerText, refusedText, listing}
+use Rattle.refusal_text.specs.RefusalTexts.{refusedText}
+use Rattle.note_lines.specs.Lines.{linesOf, answerText}
+use Rattle.note_lines.specs.Steps.{flowOn, flowsIn}
+use Rattle.note_listing.specs.Listing.{one, noteLines, listing}
 use Rattle.cash_flow.specs.Flows.{dateOn}
-use Rattle.note_listing.specs.Lines.{flowOn, flowsIn, withDays}
+use Rattle.note_listing.specs.Steps.{withDays}
 
 pub one-literal : ofBits binary64 4607182418800017408 ≡ one
 unfolding ofBits ofInt

@@ -1,15 +1,34 @@
 -- No second answer and no other bytes satisfy the promise; what is written stands in the bytes; and 662,000 bytes are always enough.
 -- Assumes nothing.
-use mathlib.Core.Path.{_≡_, subst, _∙_}
+use mathlib.Core.Path.{_≡_, sym, ap, subst, _∙_}
+use mathlib.Core.Bool.{Bool}
 use mathlib.Core.List.{List}
 use Prim.Native.Nat.{ℕ, _≤_}
 use native.Mathlib.Omega.{arith}
+use borrow.Author.Tests.{le-leb, leb-true}
+use lib.Dec.{leb}
 use lib.ListN.{length}
+use Rattle.paper.specs.Outcome.{given, pick}
+use Rattle.paper.proofs.Outcomes.{given-injective, unless-given}
+use Rattle.text.specs.Writing.{put, Written, writtenLength, writtenBytes}
+use Rattle.text.proofs.Putting.{length-put}
 use Rattle.text.specs.declared.LengthAnswer.{LengthAnswer}
 use Rattle.text.specs.declared.LengthAnswer.the-variants.{Length}
 use Rattle.text.proofs.OneOutcome.{same-length, one-write}
 use Rattle.note_listing.specs.Listing.{listing, ListPromise}
-use Rattle.note_listing.proofs.Lines.{written-within, fits-all}
+
+-- what is written stands in the bytes
+written-within : (d e xs : List ℕ) (k : ℕ) → Written d e xs (given k) → (k ≤ length d) × (length e ≡ length d)
+unfolding writtenLength writtenBytes
+written-within d e xs k w =
+    let a = unless-given (leb (length xs) (length d)) 16 (given (length xs)) k (sym (w .0)) in
+    let n : length xs ≡ k = given-injective (a .1) in
+    let h : length xs ≤ length d = leb-true (length xs) (length d) (a .0) in
+    (omega arith, ap length (w .1 ∙ ap (λ (b : Bool). pick b (put d 0 xs) d) (a .0)) ∙ length-put d 0 xs (omega arith))
+
+fits-all : (d xs : List ℕ) → length xs ≤ length d → writtenLength d xs ≡ given (length xs)
+unfolding writtenLength
+fits-all d xs h = rw (le-leb (length xs) (length d) h)
 
 -- the answer and the bytes
 pub one-listing : (s d e f : List ℕ) (r t : LengthAnswer) → ListPromise s d e r → ListPromise s d f t → (r ≡ t) × (e ≡ f)

@@ -14,6 +14,7 @@ use bond::NoteAnswer;
 use cash_amount::Currency;
 use day_count_conv::ConventionAnswer;
 use day_count_conv::DayCountConv;
+use note_limits::NO_RATE;
 use note_limits::NoteNumber;
 use packed_numbers::Letters;
 use packed_numbers::Raw;
@@ -21,9 +22,6 @@ use packed_numbers::Terms;
 use time_period::TimePeriod;
 use time_period::TimePeriodUnit;
 use time_period::UnitAnswer;
-
-// From these bits on a number has its sign bit set or is not finite.
-const NO_RATE: u64 = 0x7ff0_0000_0000_0000;
 
 fn place_good(count: u32, i: u32, n: u64) -> bool
     ensures { λ r. ⌜ r ≡ placeGood count i n ⌝ }

@@ -5,10 +5,8 @@ ghost use Prim.Native.Nat.{_+_, _*_, _≤_, _<_};
 ghost use lib.ListN.{length, take};
 ghost use Rattle.holidays.specs.Table.{ascendsFrom};
 ghost use Rattle.packed_table.specs.Tables.{tableCount, dayAt, daysFrom, isWhole, isTableIn};
-
-const MOST_HOLIDAYS: usize = 4096;
-
-const LAST_DAY: u32 = 3652059;
+use calendar::LAST_DAY;
+use holiday_tables::MOST_HOLIDAYS;
 
 // Inner: how many holidays the record says, of bytes that are there.
 pub fn table_count(s: &[u8]) -> usize

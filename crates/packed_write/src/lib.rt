@@ -187,7 +187,7 @@ pub fn write_note(note: Note, table: &[u32], out: &mut [u8]) -> LengthAnswer
     if MOST_NUMBER < period.num {
         return LengthAnswer::Refused(paper::MALFORMED_RECORD);
     }
-    match bond::check_note_with(note, true, holidays::is_table(table)) {
+    match bond::check_note_with(note, true, holiday_tables::is_table(table)) {
         NoteAnswer::Note(_) => write_judged(note, table, out),
         NoteAnswer::Refused(n) => LengthAnswer::Refused(n),
     }

@@ -1,19 +1,24 @@
 -- The desk card's steps, the refusals in their order, and business days, as theorems about the definitions.
 -- Assumes nothing.
 use Prim.Native.Nat.{ℕ}
-use mathlib.Core.Path.{_≡_, refl}
-use mathlib.Core.List.{[], _∷_}
+use mathlib.Core.Path.{_≡_, refl, ap, _∙_}
+use mathlib.Core.List.{List, [], _∷_}
+use lib.Dec.{lit≤}
 use lib.IntN.{ℤ, pos, negsuc}
-use Rattle.paper.specs.Outcome.{given, refused}
-use Rattle.calendar.specs.Dates.{isDate, isDay, dayNumber, yearOf, inYear, theDate, monthDate}
+use Rattle.paper.specs.Outcome.{Outcome, given, refused, andThen}
+use Rattle.calendar.specs.Dates.{isDate, isDay, monthDate}
 use Rattle.calendar.specs.Answers.{dateOf, weekdayOf}
 use Rattle.calendar.specs.declared.Date.{Date}
-use Rattle.gregorian.specs.Gregorian.{leap, lengthIn, monthLength, yearLength, before, unitOf}
+use Rattle.calendar.proofs.Dates.{number-by-rule}
+use Rattle.calendar.proofs.Inverse.{date-at}
+use Rattle.calendar.proofs.Examples.{last-number, saturday-number}
+use Rattle.gregorian.specs.Gregorian.{leap, lengthIn, monthLength, before}
+use Rattle.date_step.proofs.Examples.{onFrom}
 use Rattle.date_step.specs.Steps.{landing, monthsLater, existingDate, yearsLater, daysLater}
 use Rattle.holidays.specs.Table.{ascendsFrom, isTable, listed}
 use Rattle.holidays.specs.Business.{isWeekend, isBusiness, firstOf, nextFrom, lastOf, prevFrom, repeated}
 use Rattle.period_steps.specs.Added.{addTo, subFrom}
-use Rattle.time_period.specs.Steps.{absent, table, businessStep, inverseOf}
+use Rattle.time_period.specs.Steps.{absent, table, businessDay, businessStep, inverseOf}
 use Rattle.time_period.specs.declared.TimePeriodUnit.{TimePeriodUnit}
 use Rattle.time_period.specs.declared.TimePeriodUnit.the-variants.{Daily, BusinessDaily, Weekly, Monthly, Annual}
 use Rattle.time_period.specs.declared.TimePeriod.{TimePeriod}
@@ -53,12 +58,12 @@ pub record Refusals : Type 0 where
   pub least-before-bad-table : subFrom (of (negsuc 2147483647) Monthly) (table (8 ∷ 7 ∷ [])) (on 2021 1 1) ≡ refused 4
 
 pub refusals : Refusals
-unfolding leap lengthIn monthLength yearLength before isDate dayNumber landing daysLater businessStep ascendsFrom isTable inverseOf addTo subFrom
+unfolding leap lengthIn monthLength before isDate landing daysLater businessStep ascendsFrom isTable inverseOf addTo subFrom
 refusals =
     record {
-      a-day-past = refl;
-      a-week-past = refl;
-      least-added = refl;
+      a-day-past = ap (onFrom (pos 1)) last-number;
+      a-week-past = ap (onFrom (pos 7)) (number-by-rule 9999 12 25 (lit≤ tt));
+      least-added = ap (onFrom (negsuc 2147483647)) last-number;
       least-off = refl;
       date-before-table = refl;
       date-before-least = refl;
@@ -76,6 +81,16 @@ pub record BusinessDays : Type 0 where
   pub one-off : subFrom (of (pos 1) BusinessDaily) (table []) (on 2021 7 31) ≡ given (on 2021 7 30)
   pub one-listed : subFrom (of (negsuc 0) BusinessDaily) (table (738004 ∷ [])) (on 2021 7 31) ≡ given (on 2021 8 3)
 
+-- so many business days on from a serial day
+abbrev openFrom : List ℕ → ℤ → ℕ → Outcome Date
+openFrom h n k = andThen (businessDay h n k) dateOf
+
 pub business-days : BusinessDays
-unfolding leap lengthIn monthLength yearLength before unitOf isDate isDay dayNumber yearOf inYear theDate dateOf weekdayOf ascendsFrom isTable listed isWeekend isBusiness firstOf nextFrom lastOf prevFrom repeated businessStep inverseOf addTo subFrom
-business-days = record { none = refl; one = refl; one-off = refl; one-listed = refl }
+unfolding leap lengthIn monthLength before isDate isDay weekdayOf ascendsFrom isTable listed isWeekend isBusiness firstOf nextFrom lastOf prevFrom repeated businessStep inverseOf addTo subFrom
+business-days =
+    record {
+      none = ap (openFrom [] (pos 0)) saturday-number ∙ date-at (on 2021 7 31) 738002 refl saturday-number;
+      one = ap (openFrom [] (pos 1)) saturday-number ∙ date-at (on 2021 8 2) 738004 refl (number-by-rule 2021 8 2 (lit≤ tt));
+      one-off = ap (openFrom [] (negsuc 0)) saturday-number ∙ date-at (on 2021 7 30) 738001 refl (number-by-rule 2021 7 30 (lit≤ tt));
+      one-listed = ap (openFrom (738004 ∷ []) (pos 1)) saturday-number ∙ date-at (on 2021 8 3) 738005 refl (number-by-rule 2021 8 3 (lit≤ tt));
+    }

@@ -56,7 +56,7 @@ pub fn add_to_with(p: TimePeriod, t: Date, holidays: &[u32]) -> DateAnswer
     if !calendar::is_date(t) {
         return DateAnswer::Refused(paper::INVALID_DATE);
     }
-    if !holidays::is_table(holidays) {
+    if !holiday_tables::is_table(holidays) {
         return DateAnswer::Refused(paper::BAD_HOLIDAY_TABLE);
     }
     time_period::step_with(p, t, holidays)
@@ -71,7 +71,7 @@ pub fn sub_from_with(p: TimePeriod, t: Date, holidays: &[u32]) -> DateAnswer
     }
     match time_period::inverse(p) {
         PeriodAnswer::Period(q) => {
-            if !holidays::is_table(holidays) {
+            if !holiday_tables::is_table(holidays) {
                 return DateAnswer::Refused(paper::BAD_HOLIDAY_TABLE);
             }
             time_period::step_with(q, t, holidays)

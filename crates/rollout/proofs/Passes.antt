@@ -1,15 +1,14 @@
 -- What the first pass found is the answer; what it kept, or wrote over the lent room, is what the lists hold.
 -- Assumes nothing.
 use Prim.Native.Nat.{ℕ, _≤_, _<_, min}
-use mathlib.Core.Path.{_≡_, refl, sym, _∙_, ap, ap₂}
+use mathlib.Core.Path.{_≡_, sym, _∙_, ap, ap₂}
 use mathlib.Core.Bool.{Bool}
 use mathlib.Core.List.{List, _++_}
 use native.Mathlib.Omega.{arith}
 use lib.ListN.{length, take, drop}
 use lib.Ieee.{Float}
-use borrow.Author.Tests.{le-leb, lt-leb}
 use Rattle.paper.specs.Outcome.{Outcome, given, refused, andThen}
-use Rattle.paper.proofs.Outcomes.{given-injective, given-not-refused, then-given}
+use Rattle.paper.proofs.Outcomes.{then-given}
 use Rattle.room.specs.Room.{fitting, counted, roomAfter}
 use Rattle.room.proofs.Filling.{room-copied}
 use Rattle.cash_flow.specs.declared.CashFlow.{CashFlow}
@@ -23,26 +22,10 @@ use Rattle.bond.proofs.Ends.{passed}
 use Rattle.note_flows.specs.NoteFlows.{noteFlows, dayOf, amountOf}
 use Rattle.note_flows.specs.Turns.{Judged, Kept}
 use Rattle.note_flows.proofs.Flows.{Every, OfNote, flows-of}
+use Rattle.note_flows.proofs.Judging.{all-flows, fits, short, stopped}
 use Rattle.rollout.specs.Rollout.{cashFlows, fitted, RolloutPromise}
 
 module _ (n : Note) (position : Float) (table : List ℕ) where
-  -- what was judged is what is rolled out
-  pub all-flows : Judged n position table → cashFlows n position table ≡ noteFlows n position table
-  unfolding cashFlows
-  all-flows h = rw h
-
-  pub fits : (o : Outcome (List CashFlow)) (m places : ℕ) → counted o ≡ given m → m ≤ places → fitting places o ≡ o
-  fits (given l) m places c h = rw (le-leb (length l) places (omega (arith, given-injective c)))
-  fits (refused j) m places c h = refl
-
-  pub short : (o : Outcome (List CashFlow)) (m places : ℕ) → counted o ≡ given m → places < m → fitting places o ≡ refused 16
-  short (given l) m places c h = rw (lt-leb (length l) places (omega (arith, given-injective c)))
-  short (refused j) m places c h = absurd (given-not-refused (sym c))
-
-  pub stopped : (o : Outcome (List CashFlow)) (j places : ℕ) → counted o ≡ refused j → fitting places o ≡ refused j
-  stopped (given l) j places c = absurd (given-not-refused c)
-  stopped (refused k) j places c = let q : k ≡ j = cc in ap refused q
-
   module _ (days : List ℕ) (amounts : List Float) where
     -- a refusal leaves both lists as they were
     pub kept : (k : ℕ) → fitted n position table days amounts ≡ refused k → RolloutPromise n position table days amounts (flows-answer.Refused k) days amounts
@@ -54,7 +37,7 @@ module _ (n : Note) (position : Float) (table : List ℕ) where
 
     module _ (j : Judged n position table) where
       of-flows : (o : Outcome (List CashFlow)) → fitting (min (length days) (length amounts)) (noteFlows n position table) ≡ o → fitted n position table days amounts ≡ o
-      of-flows o e = ap (fitting (min (length days) (length amounts))) (all-flows j) ∙ e
+      of-flows o e = ap (fitting (min (length days) (length amounts))) (all-flows n position table j) ∙ e
 
       pub fill-stopped : (k : ℕ) → refused k ≡ counted (noteFlows n position table) → RolloutPromise n position table days amounts (flows-answer.Refused k) days amounts
       fill-stopped k c = kept k (of-flows (refused k) (stopped (noteFlows n position table) k _ (sym c)))
@@ -91,11 +74,6 @@ module _ (n : Note) (position : Float) (table : List ℕ) where
     unfolding cashFlows
     note-refused p t k a b e =
         kept k (ap (λ (o : Outcome Note). fitting (min (length days) (length amounts)) (andThen o (λ m. noteFlows m position table))) (ap₂ (λ (x y : Bool). noteChecks x y n) (sym a) (sym b) ∙ e))
-
--- the checks give the note that was judged
-pub judged-by : (n : Note) (position : Float) (table : List ℕ) (p t : Bool) (m : Note) → p ≡ isPosition position → t ≡ isTable table → noteChecks p t n ≡ given m → Judged n position table
-judged-by n position table p t m a b e =
-    ap₂ (λ (x y : Bool). noteChecks x y n) (sym a) (sym b) ∙ e ∙ ap given (sym (passed p t n m e .itself))
 
 -- the flows of a note that passes its checks are of its currency and on dates of the calendar
 pub cash-flows-of : (n : Note) (position : Float) (table : List ℕ) (l : List CashFlow) → cashFlows n position table ≡ given l → Every (OfNote n) l × (length l ≤ 3652060)

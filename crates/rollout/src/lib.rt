@@ -8,9 +8,7 @@ ghost use Rattle.rollout.specs.Rollout.{RolloutPromise};
 use bond::Note;
 use bond::NoteAnswer;
 use cash_flow::FlowsAnswer;
-
-// How many flows the first pass keeps for the second: 21 years of months. There is no heap, and more would cost a short note too much to clear.
-pub const KEPT: usize = 256;
+use note_flows::KEPT;
 
 // The first n days and amounts, in front of others.
 fn copy(n: usize, kept_days: &[u32], kept_amounts: &[f64], days: &mut [u32], amounts: &mut [f64])
@@ -69,7 +67,7 @@ pub fn rollout_flows(
     ensures { λ r. ⌜ RolloutPromise note position (now (table .entry)) (now (days .entry)) (now (amounts .entry)) r (now (days .exit)) (now (amounts .exit)) ⌝ }
 {
     let position_in = bond::is_position(position);
-    let table_taken = holidays::is_table(table);
+    let table_taken = holiday_tables::is_table(table);
     match bond::check_note_with(note, position_in, table_taken) {
         NoteAnswer::Note(_) => fill(note, position, table, days, amounts),
         NoteAnswer::Refused(k) => FlowsAnswer::Refused(k),

@@ -5,10 +5,9 @@ use calendar::Day;
 use calendar::DayAnswer;
 use calendar::Days;
 use calendar::DaysAnswer;
+use calendar::LAST_DAY;
 use calendar::WeekdayAnswer;
 ghost use Rattle.calendar.specs.Answers.{DayOfPromise, DateOfPromise, WeekdayPromise, DaysBetweenPromise, DayAfterPromise};
-
-const LAST_DAY: u32 = 3652059;
 
 pub fn day_of(t: Date) -> DayAnswer
     ensures { λ r. ⌜ DayOfPromise t r ⌝ }

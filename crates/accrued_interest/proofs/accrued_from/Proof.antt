@@ -4,7 +4,7 @@ use mathlib.Core.Path.{_≡_, sym, _∙_, ap}
 use borrow.Author.Needs.{needs}
 use Rattle.paper.specs.Outcome.{Outcome, given, andThen}
 use Rattle.accrued_interest.specs.Accrued.{periodOutcome, periodHolding, accruedIn, accruedFrom, inBits}
-use Rattle.accrued_interest.specs.declared.CouponPeriod.{CouponPeriod}
+use Rattle.period_interest.specs.declared.CouponPeriod.{CouponPeriod}
 use Rattle.accrued_interest.proofs.Walk.{holding-stops}
 use Rattle.accrued_interest.proofs.accrued_from.Statement.{statement}
 use Rattle.accrued_interest.proofs.accrued_from.Tie as tie

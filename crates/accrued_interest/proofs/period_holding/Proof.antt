@@ -5,7 +5,8 @@ use mathlib.Core.Bool.{true}
 use borrow.Author.Needs.{needs}
 use Rattle.paper.specs.Outcome.{given}
 use Rattle.calendar.specs.Answers.{dateOutcome}
-use Rattle.accrued_interest.specs.Accrued.{running, Begun, nextPeriod, goesOn, periodHolding}
+use Rattle.period_interest.specs.PeriodInterest.{Begun}
+use Rattle.accrued_interest.specs.Accrued.{running, nextPeriod, goesOn, periodHolding}
 use Rattle.accrued_interest.proofs.Walk.{ahead, next-given, next-refused, next-begun, holding-next, holding-refused, holding-there}
 use Rattle.accrued_interest.proofs.period_holding.Statement.{statement}
 use Rattle.accrued_interest.proofs.period_holding.Tie as tie

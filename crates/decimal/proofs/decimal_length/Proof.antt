@@ -1,11 +1,8 @@
 -- `decimal::decimal_length` meets its contract: a length for each of the parts. Laws of Answers.
 -- Assumes nothing.
-use Prim.Native.Nat.{_*_, _^_}
 use mathlib.Core.Path.{subst}
-use native.Mathlib.Omega.{arith}
 use borrow.Author.Needs.{needs}
 use Rattle.decimal.specs.Parts.{PartsOf}
-use Rattle.decimal.proofs.Texts.{signed-long}
 use Rattle.decimal.proofs.Answers.{length-given, length-refused}
 use Rattle.decimal.proofs.decimal_length.Statement.{statement}
 use Rattle.decimal.proofs.decimal_length.Tie as tie
@@ -22,13 +19,10 @@ small-length-requires c κs = search needs
 enum-known-negative-2 : tie.Need-enum-known-negative-2
 enum-known-negative-2 c = search needs
 
-large-size-requires : tie.Need-large-size-requires
-large-size-requires c κs =
+large-length-requires : tie.Need-large-length-requires
+large-length-requires c κs =
     let p = subst (PartsOf (c .before .before .before .before .args .x)) (c .before .negative2 .given .1) (c .before .before .before .parts-of .ensures) in
     (p .3, p .4)
-
-columns-requires : tie.Need-columns-requires
-columns-requires c κs = search needs
 
 enum-told : tie.Need-enum-told
 enum-told c = search needs
@@ -40,9 +34,8 @@ returns c =
 
 returns-2 : tie.Need-returns-2
 returns-2 c =
-    let large = c .before .before .before .negative2 .given .0 in
-    let p = subst (PartsOf (c .before .before .before .before .before .before .args .x)) (c .before .before .before .negative2 .given .1) (c .before .before .before .before .before .parts-of .ensures) in
-    length-given _ _ _ _ (p .0) (p .1) (p .2) (omega (arith, c .columns .ensures, c .before .large-size .ensures .0, signed-long (large .0) (large .1 .0 * 2 ^ large .1 .1 .0)))
+    let p = subst (PartsOf (c .before .before .before .before .before .args .x)) (c .before .before .negative2 .given .1) (c .before .before .before .before .parts-of .ensures) in
+    length-given _ _ _ _ (p .0) (p .1) (p .2) (c .large-length .ensures)
 
 returns-3 : tie.Need-returns-3
 returns-3 c = length-refused _ (subst (PartsOf (c .before .before .before .args .x)) (c .enum-told .given .1) (c .before .before .parts-of .ensures))
@@ -55,8 +48,7 @@ decimal-length-spec =
     enum-known-negative
     small-length-requires
     enum-known-negative-2
-    large-size-requires
-    columns-requires
+    large-length-requires
     enum-told
     returns
     returns-2

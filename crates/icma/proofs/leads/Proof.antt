@@ -4,7 +4,7 @@ use mathlib.Core.Path.{sym, _∙_, ap}
 use Rattle.paper.specs.Outcome.{Outcome}
 use Rattle.calendar.specs.Answers.{dateOutcome}
 use Rattle.calendar.specs.declared.Date.{Date}
-use Rattle.icma.specs.Leaps.{leadsTo}
+use Rattle.icma.specs.Leads.{leadsTo}
 use borrow.Author.Needs.{needs}
 use Rattle.icma.proofs.leads.Statement.{statement}
 use Rattle.icma.proofs.leads.Tie as tie

@@ -5,9 +5,10 @@ use native.Mathlib.Omega.{arith}
 use borrow.Author.Needs.{needs}
 use Rattle.paper.specs.Outcome.{Outcome, given, andThen}
 use Rattle.calendar.proofs.Dates.{date-yes, number-to}
-use Rattle.icma.specs.Walk.{walkOutcome, walkBack, toFirst, longParts}
-use Rattle.icma.specs.declared.Walked.{Walked}
-use Rattle.icma.proofs.Walking.{back-ends}
+use Rattle.icma_walks.specs.Walks.{walkOutcome}
+use Rattle.icma.specs.Walk.{walkBack, toFirst, longParts}
+use Rattle.icma_walks.specs.declared.Walked.{Walked}
+use Rattle.icma_walks.proofs.Walking.{back-ends}
 use Rattle.icma.proofs.long_parts.Statement.{statement}
 use Rattle.icma.proofs.long_parts.Tie as tie
 

@@ -4,9 +4,10 @@ use mathlib.Core.Path.{_≡_, sym, _∙_, ap}
 use native.Mathlib.Omega.{arith}
 use borrow.Author.Needs.{needs}
 use Rattle.paper.specs.Outcome.{Outcome, given, andThen}
-use Rattle.icma.specs.Walk.{walkOutcome, walkOn, toLast, toEnd}
-use Rattle.icma.specs.declared.Walked.{Walked}
-use Rattle.icma.proofs.Walking.{on-ends}
+use Rattle.icma_walks.specs.Walks.{walkOutcome}
+use Rattle.icma.specs.Walk.{walkOn, toLast, toEnd}
+use Rattle.icma_walks.specs.declared.Walked.{Walked}
+use Rattle.icma_walks.proofs.Walking.{on-ends}
 use Rattle.icma.proofs.to_end.Statement.{statement}
 use Rattle.icma.proofs.to_end.Tie as tie
 

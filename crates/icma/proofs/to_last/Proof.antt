@@ -5,7 +5,7 @@ use mathlib.Core.Path.{sym, _∙_, ap}
 use borrow.Author.Needs.{needs}
 use Rattle.paper.specs.Outcome.{Outcome, given, andThen}
 use Rattle.icma.specs.Walk.{brokenOutcome, toLast}
-use Rattle.icma.specs.declared.Walked.{Walked}
+use Rattle.icma_walks.specs.declared.Walked.{Walked}
 use Rattle.icma.specs.declared.Broken.{Broken}
 use Rattle.icma.specs.declared.Parts.the-variants.{Long}
 use Rattle.icma.specs.declared.Parts.{Parts}

@@ -8,11 +8,12 @@ use mir.Val.{SFits, toZ, ofZ}
 use mir.Syntax.{w32}
 use borrow.Author.Needs.{needs}
 use Rattle.paper.specs.Outcome.{Outcome, given, andThen}
-use Rattle.icma.specs.Walk.{walkOutcome, negated, baseFrom, partsFrom, icmaParts}
-use Rattle.icma.specs.declared.Walked.{Walked}
+use Rattle.icma_walks.specs.Walks.{walkOutcome}
+use Rattle.icma.specs.Walk.{negated, baseFrom, partsFrom, icmaParts}
+use Rattle.icma_walks.specs.declared.Walked.{Walked}
 use Rattle.time_period.specs.declared.TimePeriod.{TimePeriod}
 use Rattle.time_period.proofs.Signs.{minus-fits, minus-read}
-use Rattle.icma.proofs.Walking.{negated-below, not-the-least, base-ends}
+use Rattle.icma.proofs.Steps.{negated-below, not-the-least, base-ends}
 use Rattle.icma.proofs.walked_parts.Statement.{statement}
 use Rattle.icma.proofs.walked_parts.Tie as tie
 

@@ -5,9 +5,9 @@ use mathlib.Core.Path.{refl, sym, ap}
 use native.Mathlib.Omega.{arith}
 use denote.Ref.{now}
 use lib.Seq.{length-take-le}
-use Rattle.note_listing.proofs.Lines.{written-is}
+use Rattle.note_lines.proofs.Lines.{written-is, refusal-written}
 use Rattle.note_listing.proofs.Notes.{one-literal, Rolled, rolled-out, not-rolled-out}
-use Rattle.note_listing.specs.Listing.{answerText}
+use Rattle.note_lines.specs.Lines.{answerText}
 use borrow.Author.Needs.{needs}
 use Rattle.note_listing.proofs.list_flows.Statement.{statement}
 use Rattle.note_listing.proofs.list_flows.Tie as tie
@@ -71,7 +71,7 @@ returns-2 : tie.Need-returns-2
 returns-2 c =
     let k = c .before .before .before .before .before in
     let s = k .before .before .before .before .before .before .before .before .before in
-    written-is _ _ _ _ _ (ap answerText (sym (not-rolled-out (s .args .note) (now (s .args .table)) _ _ _ _ refl refl _ _ _ one-literal (k .k .given .1) (k .before .before .before .before .rollout-flows .ensures)))) (c .before .before .write-refusal .ensures)
+    refusal-written _ _ _ _ _ (ap answerText (sym (not-rolled-out (s .args .note) (now (s .args .table)) _ _ _ _ refl refl _ _ _ one-literal (k .k .given .1) (k .before .before .before .before .rollout-flows .ensures)))) (c .before .before .write-refusal .ensures)
 
 pub list-flows-spec : {M : Type 1} → statement M
 list-flows-spec =

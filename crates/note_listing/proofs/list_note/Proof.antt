@@ -3,7 +3,7 @@
 use mathlib.Core.Path.{refl, sym}
 use denote.Ref.{now}
 use lib.Seq.{length-take-le}
-use Rattle.note_listing.proofs.Lines.{written-is}
+use Rattle.note_lines.proofs.Lines.{written-is, refusal-written}
 use Rattle.note_listing.proofs.Notes.{Read, was-read-so, was-refused-so}
 use borrow.Author.Needs.{needs}
 use Rattle.note_listing.proofs.list_note.Statement.{statement}
@@ -50,7 +50,7 @@ returns-2 : tie.Need-returns-2
 returns-2 c =
     let n = c .before .before .before .before .before in
     let s = n .before .before .before .before .before .before .before in
-    written-is _ _ _ _ _ (sym (was-refused-so (now (s .args .s)) _ _ refl _ _ (n .n .given .1) (n .before .before .before .read-note .ensures))) (c .before .before .write-refusal .ensures)
+    refusal-written _ _ _ _ _ (sym (was-refused-so (now (s .args .s)) _ _ refl _ _ (n .n .given .1) (n .before .before .before .read-note .ensures))) (c .before .before .write-refusal .ensures)
 
 pub list-note-spec : {M : Type 1} → statement M
 list-note-spec =

@@ -3,7 +3,8 @@
 use mathlib.Core.Path.{sym, _∙_, ap}
 use borrow.Author.Needs.{needs}
 use Rattle.bond.specs.Notes.{noteOutcome}
-use Rattle.rollout.proofs.Passes.{note-refused, judged-by}
+use Rattle.rollout.proofs.Passes.{note-refused}
+use Rattle.note_flows.proofs.Judging.{judged-by}
 use Rattle.rollout.proofs.rollout_flows.Statement.{statement}
 use Rattle.rollout.proofs.rollout_flows.Tie as tie
 

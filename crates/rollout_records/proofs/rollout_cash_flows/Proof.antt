@@ -58,12 +58,14 @@ use denote.Exit.{yes}
 use Rattle.cash_flow.specs.Flows.{flowsOutcome}
 use Rattle.cash_flow.specs.declared.CashFlow.{CashFlow}
 use Rattle.cash_flow.specs.declared.FlowsAnswer.{FlowsAnswer}
-use Rattle.room.specs.Room.{counted}
+use Rattle.room.specs.Room.{fitting, counted}
 use Rattle.bond.specs.declared.Note.{Note}
 use Rattle.coupon_dues.specs.declared.Due.the-variants.{First}
-use Rattle.rollout_records.specs.Records.{recordsFitted, RecordsPromise}
-use Rattle.rollout_records.specs.Steps.{writtenOf, KeptAll, Came}
-use Rattle.rollout_records.specs.declared.Paid.{Paid}
+use Rattle.rollout.specs.Rollout.{cashFlows}
+use Rattle.rollout_records.specs.Records.{RecordsPromise}
+use Rattle.kept_flows.specs.Steps.{KeptAll, Came}
+use Rattle.rollout_records.specs.Steps.{writtenOf}
+use Rattle.kept_flows.specs.declared.Paid.{Paid}
 use Rattle.room.proofs.Walks.{rest-of}
 use Rattle.rollout_records.proofs.Rolled.{toWrite, Rolling, enough-room, rolling-none, coming, k-inside, rolling-more, so-many, rolled}
 use Rattle.bond.proofs.Note as N
@@ -72,14 +74,14 @@ use Rattle.cash_flow.proofs.CashFlow as T
 use Rattle.cash_flow.proofs.CashFlow.Laws as T′
 use Rattle.cash_flow.proofs.FlowsAnswer as C
 use Rattle.cash_flow.proofs.FlowsAnswer.Laws as C′
-use Rattle.rollout_records.proofs.Paid as P
-use Rattle.rollout_records.proofs.Paid.Laws as P′
-use Rattle.rollout_records.proofs.answer_within as answer-within
-use Rattle.rollout_records.proofs.answer_within.Symbol as answer-within-def
-use Rattle.rollout_records.proofs.answer_within.Met as answer-within-thm
-use Rattle.rollout_records.proofs.next_paid as next-paid
-use Rattle.rollout_records.proofs.next_paid.Symbol as next-paid-def
-use Rattle.rollout_records.proofs.next_paid.Met as next-paid-thm
+use Rattle.kept_flows.proofs.Paid as P
+use Rattle.kept_flows.proofs.Paid.Laws as P′
+use Rattle.kept_flows.proofs.answer_within as answer-within
+use Rattle.kept_flows.proofs.answer_within.Symbol as answer-within-def
+use Rattle.kept_flows.proofs.answer_within.Met as answer-within-thm
+use Rattle.kept_flows.proofs.next_paid as next-paid
+use Rattle.kept_flows.proofs.next_paid.Symbol as next-paid-def
+use Rattle.kept_flows.proofs.next_paid.Met as next-paid-thm
 use Rattle.rollout_records.proofs.flow_of as flow-of
 use Rattle.rollout_records.proofs.flow_of.Symbol as flow-of-def
 use Rattle.rollout_records.proofs.flow_of.Met as flow-of-thm
@@ -195,7 +197,7 @@ module _ {M : Type 1} (𝓤 : URA M) (H : Heap 𝓤) (A : Atoms 𝓤) (W : Given
   to-write = toWrite note position table old
 
   abbrev Answers : FlowsAnswer → Type 0
-  Answers r = flowsOutcome r ≡ counted (recordsFitted note position table (length old))
+  Answers r = flowsOutcome r ≡ counted (fitting (length old) (cashFlows note position table))
 
   -- [the fractured borrow; the token; res; the table's fact; obs; the borrow of the room; its token]
   abbrev Front : List CashFlow → List (Item 𝓤)
@@ -320,8 +322,8 @@ module _ {M : Type 1} (𝓤 : URA M) (H : Heap 𝓤) (A : Atoms 𝓤) (W : Given
     asked-next-paid : (t : Upto) → t .k < length to-write → ent 𝓤 (onEntry 𝓤 H A next-paid.signature (κ, (α, (β, tt))) (q, (fullShare, (fullShare, tt))) (next-args t) (next-vals t)) (NextPaid 𝓤 H A mem run .pre (to-next-paid t))
     asked-next-paid t l = qed W ((‵ (flft κ q) ⊛ ‵ (flft α fullShare) ⊛ ‵ (flft β fullShare) ⊛ ‵ ftrue) ∷ ‵ (owns (N.the-row ∷ f64 ∷ ShrSlice (named 0) κ u32 ∷ ShrRef (named 1) α (Kept u32) ∷ ShrRef (named 2) β (Kept f64) ∷ usize ∷ usize ∷ P.the-row ∷ []) (next-args t) (next-vals t)) ∷ []) ∵ says ! (coming note position table old t l ds xs kept, l) $ frame ! $ done !
 
-    said-next-paid : (t : Upto) (p : Paid) → ent 𝓤 (ensured 𝓤 H A next-paid.ended (next-paid.clauses 𝓤 H A mem run) (κ, (α, (β, tt))) (next-args t) tt p) (fact 𝓤 (Came note position table (length to-write) (t .k) (p .flow) (p .next)))
-    said-next-paid t p = exE 𝓤 _ (λ ws. snd∗ 𝓤 (sem 𝓤 H A (lasts next-paid.ended (κ, (α, (β, tt))) (next-args t) ws)) (fact 𝓤 (Came note position table (length to-write) (t .k) (p .flow) (p .next))))
+    said-next-paid : (t : Upto) (p : Paid) → ent 𝓤 (ensured 𝓤 H A next-paid.ended (next-paid.clauses 𝓤 H A mem run) (κ, (α, (β, tt))) (next-args t) tt p) (fact 𝓤 (Came note position table (length to-write) (t .k) (t .paid .next) (p .flow) (p .next)))
+    said-next-paid t p = exE 𝓤 _ (λ ws. snd∗ 𝓤 (sem 𝓤 H A (lasts next-paid.ended (κ, (α, (β, tt))) (next-args t) ws)) (fact 𝓤 (Came note position table (length to-write) (t .k) (t .paid .next) (p .flow) (p .next))))
 
     many-word : length to-write < 2 ^ 64
     many-word = omega (arith, gm .0, enough-room note position table old)
@@ -401,8 +403,8 @@ module _ {M : Type 1} (𝓤 : URA M) (H : Heap 𝓤) (A : Atoms 𝓤) (W : Given
         use1 W (later (some (λ (p : Paid). ((‵ (flft κ q) ⊛ ‵ (flft α fullShare) ⊛ ‵ (flft β fullShare) ⊛ ‵ ftrue) ⊛ ‵ (P.the-row .own p (u ∷ []))) ⊛ raw (ensured 𝓤 H A next-paid.ended (next-paid.clauses 𝓤 H A mem run) (κ, (α, (β, tt))) (next-args t) tt p)))) (id⊢ 𝓤 _) $ await ! tt $ pick ! (λ p.
         split ! $
         move ! (1 ∷ []) $
-        use1 W (raw (fact 𝓤 (Came note position table (length to-write) (t .k) (p .flow) (p .next)))) (said-next-paid t p) $
-        heard ! (Came note position table (length to-write) (t .k) (p .flow) (p .next)) (λ came.
+        use1 W (raw (fact 𝓤 (Came note position table (length to-write) (t .k) (t .paid .next) (p .flow) (p .next)))) (said-next-paid t p) $
+        heard ! (Came note position table (length to-write) (t .k) (t .paid .next) (p .flow) (p .next)) (λ came.
         split ! $
         move ! (1 ∷ []) $
         peeks ! P.the-row (Is P.the-row) (shows 𝓤 H A P.the-row) p (u ∷ []) (λ is.
@@ -746,8 +748,8 @@ rollout-cash-flows-spec 𝓤 H 𝓜 𝓖 𝓡 =
     (rollout-meets 𝓤 H (𝓖 .A) (givenOf 𝓤 H 𝓜 𝓖) (𝓜 .mem) (𝓡 .run) (tablesOf 𝓤 H 𝓜 (tables 𝓤 H 𝓜 𝓡 code.env))
     (cited 𝓤 H (NoDays 𝓤 H (𝓖 .A) (𝓜 .mem) (𝓡 .run)) 𝓜 𝓡 code.env no-days-def.name no-days-def.routine code.calls-rollout-records·no-days (no-days-thm.met 𝓤 H 𝓜 𝓖 𝓡))
     (cited 𝓤 H (NoAmounts 𝓤 H (𝓖 .A) (𝓜 .mem) (𝓡 .run)) 𝓜 𝓡 code.env no-amounts-def.name no-amounts-def.routine code.calls-rollout-records·no-amounts (no-amounts-thm.met 𝓤 H 𝓜 𝓖 𝓡))
-    (cited 𝓤 H (AnswerWithin 𝓤 H (𝓖 .A) (𝓜 .mem) (𝓡 .run)) 𝓜 𝓡 code.env answer-within-def.name answer-within-def.routine code.calls-rollout-records·answer-within (answer-within-thm.met 𝓤 H 𝓜 𝓖 𝓡))
-    (cited 𝓤 H (NextPaid 𝓤 H (𝓖 .A) (𝓜 .mem) (𝓡 .run)) 𝓜 𝓡 code.env next-paid-def.name next-paid-def.routine code.calls-rollout-records·next-paid (next-paid-thm.met 𝓤 H 𝓜 𝓖 𝓡))
+    (cited 𝓤 H (AnswerWithin 𝓤 H (𝓖 .A) (𝓜 .mem) (𝓡 .run)) 𝓜 𝓡 code.env answer-within-def.name answer-within-def.routine code.calls-kept-flows·answer-within (answer-within-thm.met 𝓤 H 𝓜 𝓖 𝓡))
+    (cited 𝓤 H (NextPaid 𝓤 H (𝓖 .A) (𝓜 .mem) (𝓡 .run)) 𝓜 𝓡 code.env next-paid-def.name next-paid-def.routine code.calls-kept-flows·next-paid (next-paid-thm.met 𝓤 H 𝓜 𝓖 𝓡))
     (cited 𝓤 H (FlowOf 𝓤 H (𝓖 .A) (𝓜 .mem) (𝓡 .run)) 𝓜 𝓡 code.env flow-of-def.name flow-of-def.routine code.calls-rollout-records·flow-of (flow-of-thm.met 𝓤 H 𝓜 𝓖 𝓡))
     (cited 𝓤 H (Written 𝓤 H (𝓖 .A) (𝓜 .mem) (𝓡 .run)) 𝓜 𝓡 code.env written-def.name written-def.routine code.calls-rollout-records·written (written-thm.met 𝓤 H 𝓜 𝓖 𝓡))
     (cited 𝓤 H (Begin 𝓤 H (𝓖 .A) (𝓜 .mem) (𝓡 .run)) 𝓜 𝓡 code.env begin-def.name begin-def.routine code.calls-rollout-records·begin (begin-thm.met 𝓤 H 𝓜 𝓖 𝓡)))

@@ -1,0 +1,2 @@
+pub mod FourDecimals
+pub mod Pieces

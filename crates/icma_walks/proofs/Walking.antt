@@ -1,0 +1,176 @@
+-- A walk ends: each turn leads nearer to an end of the calendar, so the steps allowed are never used up.
+-- Assumes nothing.
+use Prim.Native.Nat.{ℕ, zero, suc, _+_, _-_, _≤_, _<_}
+use mathlib.Core.Path.{_≡_, refl, sym, _∙_, ap}
+use mathlib.Core.Bool.{Bool, true, false}
+use native.Mathlib.Omega.{arith}
+use lib.IntN.{pos}
+use lib.Signed.{ltZ}
+use Rattle.paper.specs.Outcome.{Outcome, given, refused, andThen, pick}
+use Rattle.paper.proofs.Outcomes.{given-injective, given-not-refused, then-given}
+use Rattle.calendar.specs.Dates.{isDate, isBefore, dayNumber}
+use Rattle.calendar.specs.declared.Date.{Date}
+use Rattle.calendar.proofs.Dates.{date-yes, date-is, number-to}
+use Rattle.time_period.specs.Steps.{absent}
+use Rattle.icma_walks.specs.Walks.{step, walk, from, turnOn, walkOn, turnBack, walkBack}
+use Rattle.time_period.specs.declared.TimePeriod.{TimePeriod}
+use Rattle.icma_walks.specs.declared.Walked.{Walked}
+use Rattle.time_period.proofs.Steps.{step-leads}
+
+-- what a turn leads to: a date of the calendar, nearer to the end by φ, and at most one more in the count
+pub record Turned (φ : Date → ℕ) (w v : Walked) : Type 0 where
+  pub dated : isDate (v .at) ≡ true
+  pub nearer : φ (v .at) < φ (w .at)
+  pub counted : v .count ≤ w .count + 1
+
+-- where a walk ends: a date of the calendar, with no more to go, and no more counted than steps were made
+pub record Ended (φ : Date → ℕ) (more : Date → Bool) (w v : Walked) : Type 0 where
+  pub dated : isDate (v .at) ≡ true
+  pub there : more (v .at) ≡ false
+  pub counted : v .count + φ (v .at) ≤ w .count + φ (w .at)
+
+module _ (more : Date → Bool) (turn : Walked → Outcome Walked) where
+  pub walk-more : (k : ℕ) (w : Walked) → more (w .at) ≡ true → walk (suc k) more turn w ≡ andThen (turn w) (walk k more turn)
+  unfolding walk
+  walk-more k w h = ap (λ (b : Bool). elim b as (λ x. Outcome Walked) [ true ↦ andThen (turn w) (walk k more turn) | false ↦ given w ]) h
+
+  pub walk-there : (k : ℕ) (w : Walked) → more (w .at) ≡ false → walk (suc k) more turn w ≡ given w
+  unfolding walk
+  walk-there k w h = ap (λ (b : Bool). elim b as (λ x. Outcome Walked) [ true ↦ andThen (turn w) (walk k more turn) | false ↦ given w ]) h
+
+  module _ (φ : Date → ℕ) (leads : (w v : Walked) → isDate (w .at) ≡ true → turn w ≡ given v → Turned φ w v) where
+    -- with steps enough, how many are allowed does not matter
+    pub enough : (j k : ℕ) (w : Walked) → isDate (w .at) ≡ true → φ (w .at) < j → φ (w .at) < k → walk j more turn w ≡ walk k more turn w
+    enough zero k w d h l = absurd (omega arith)
+    enough (suc j) zero w d h l = absurd (omega arith)
+    enough (suc j) (suc k) w d h l = by (more (w .at)) refl (turn w) refl (λ v e. enough j k v)
+      where
+        by : (b : Bool) → more (w .at) ≡ b → (o : Outcome Walked) → turn w ≡ o → ((v : Walked) → turn w ≡ given v → isDate (v .at) ≡ true → φ (v .at) < j → φ (v .at) < k → walk j more turn v ≡ walk k more turn v) → walk (suc j) more turn w ≡ walk (suc k) more turn w
+        by false e o q r = walk-there j w e ∙ sym (walk-there k w e)
+        by true e (refused n) q r =
+            walk-more j w e ∙ ap (λ (x : Outcome Walked). andThen x (walk j more turn)) q
+            ∙ sym (walk-more k w e ∙ ap (λ (x : Outcome Walked). andThen x (walk k more turn)) q)
+        by true e (given v) q r =
+            let t = leads w v d q in
+            walk-more j w e ∙ ap (λ (x : Outcome Walked). andThen x (walk j more turn)) q
+            ∙ r v q (t .dated) (omega (arith, t .nearer)) (omega (arith, t .nearer))
+            ∙ sym (walk-more k w e ∙ ap (λ (x : Outcome Walked). andThen x (walk k more turn)) q)
+
+    -- a turn leaves the same walk to be made
+    pub walk-turn : (k : ℕ) (w v : Walked) → isDate (w .at) ≡ true → φ (w .at) < k → more (w .at) ≡ true → turn w ≡ given v → walk k more turn v ≡ walk k more turn w
+    walk-turn zero w v d h e q = absurd (omega arith)
+    walk-turn (suc k) w v d h e q =
+        let t = leads w v d q in
+        enough (suc k) k v (t .dated) (omega (arith, t .nearer)) (omega (arith, t .nearer))
+        ∙ sym (walk-more k w e ∙ ap (λ (x : Outcome Walked). andThen x (walk k more turn)) q)
+
+    pub walk-refused : (k n : ℕ) (w : Walked) → φ (w .at) < k → more (w .at) ≡ true → turn w ≡ refused n → refused n ≡ walk k more turn w
+    walk-refused zero n w h e q = absurd (omega arith)
+    walk-refused (suc k) n w h e q = sym (walk-more k w e ∙ ap (λ (x : Outcome Walked). andThen x (walk k more turn)) q)
+
+    pub walk-done : (k : ℕ) (w : Walked) → φ (w .at) < k → more (w .at) ≡ false → given w ≡ walk k more turn w
+    walk-done zero w h e = absurd (omega arith)
+    walk-done (suc k) w h e = sym (walk-there k w e)
+
+    pub walk-ends : (k : ℕ) (w v : Walked) → isDate (w .at) ≡ true → walk k more turn w ≡ given v → Ended φ more w v
+    unfolding walk
+    walk-ends zero w v d e = absurd (given-not-refused (sym e))
+    walk-ends (suc k) w v d e = by (more (w .at)) refl (walk-ends k)
+      where
+        by : (b : Bool) → more (w .at) ≡ b → ((x y : Walked) → isDate (x .at) ≡ true → walk k more turn x ≡ given y → Ended φ more x y) → Ended φ more w v
+        by false h r =
+            let q : w ≡ v = given-injective (sym (walk-there k w h) ∙ e) in
+            record { dated = ap (λ (x : Walked). isDate (x .at)) (sym q) ∙ d; there = ap (λ (x : Walked). more (x .at)) (sym q) ∙ h; counted = rw q (omega arith) }
+        by true h r =
+            let g = then-given (turn w) (walk k more turn) v (sym (walk-more k w h) ∙ e) in
+            let t = leads w (g .0) d (g .1) in
+            let s = r (g .0) v (t .dated) (g .2) in
+            record { dated = s .dated; there = s .there; counted = omega (arith, s .counted, t .nearer, t .counted) }
+
+-- one turn of each walk
+picked-more : (b : Bool) (n : ℕ) → pick b n (n + 1) ≤ n + 1
+picked-more true n = omega arith
+picked-more false n = omega arith
+
+-- how far it is to the end of the calendar, and to its beginning
+pub ahead : Date → ℕ
+ahead t = 3652059 - dayNumber t
+
+pub behind : Date → ℕ
+behind t = dayNumber t
+
+pub ahead-is : (t : Date) → ahead t ≡ 3652059 - dayNumber t
+unfolding ahead
+ahead-is t = refl
+
+pub behind-is : (t : Date) → behind t ≡ dayNumber t
+unfolding behind
+behind-is t = refl
+
+pub turn-on-leads : (p : TimePeriod) (limit : Date) → ltZ (pos 0) (p .num) ≡ true → (w v : Walked) → isDate (w .at) ≡ true → turnOn p limit w ≡ given v → Turned ahead w v
+unfolding turnOn ahead
+turn-on-leads p limit h w v d e =
+    let g = then-given (step p (w .at)) (λ u. given (record { at = u; count = pick (isBefore limit u) (w .count) (w .count + 1) })) v e in
+    let s = step-leads p absent (w .at) (g .0) d (g .1) in
+    let q : _≡_ {A = Walked} (record { at = g .0; count = pick (isBefore limit (g .0)) (w .count) (w .count + 1) }) v = given-injective (g .2) in
+    let l = s .later h in
+    let n = number-to (g .0) (s .dated) in
+    rw (sym q) (record { dated = date-is (g .0) (s .dated); nearer = omega arith; counted = picked-more (isBefore limit (g .0)) (w .count) })
+
+pub turn-back-leads : (q : TimePeriod) (limit : Date) → ltZ (q .num) (pos 0) ≡ true → (w v : Walked) → isDate (w .at) ≡ true → turnBack q limit w ≡ given v → Turned behind w v
+unfolding turnBack behind
+turn-back-leads p limit h w v d e =
+    let g = then-given (step p (w .at)) (λ u. given (record { at = u; count = pick (isBefore u limit) (w .count) (w .count + 1) })) v e in
+    let s = step-leads p absent (w .at) (g .0) d (g .1) in
+    let q : _≡_ {A = Walked} (record { at = g .0; count = pick (isBefore (g .0) limit) (w .count) (w .count + 1) }) v = given-injective (g .2) in
+    rw (sym q) (record { dated = date-is (g .0) (s .dated); nearer = s .earlier h; counted = picked-more (isBefore (g .0) limit) (w .count) })
+
+-- where each walk ends
+pub record End (w : Walked) : Type 0 where
+  pub dated : isDate (w .at) ≡ true
+  pub few : w .count ≤ 3652059
+
+pub on-ends : (p : TimePeriod) (limit t : Date) (w : Walked) → isDate t ≡ true → ltZ (pos 0) (p .num) ≡ true → walkOn p limit t ≡ given w → End w × (isBefore (w .at) limit ≡ false)
+unfolding walkOn
+on-ends p limit t w d h e =
+    let s = walk-ends (λ u. isBefore u limit) (turnOn p limit) ahead (turn-on-leads p limit h) 3652060 (from t) w d e in
+    (record { dated = s .dated; few = omega (arith, s .counted, ahead-is t) }, s .there)
+
+pub back-ends : (q : TimePeriod) (limit t : Date) (w : Walked) → isDate t ≡ true → ltZ (q .num) (pos 0) ≡ true → walkBack q limit t ≡ given w → End w × (isBefore limit (w .at) ≡ false)
+unfolding walkBack
+back-ends q limit t w d h e =
+    let s = walk-ends (λ u. isBefore limit u) (turnBack q limit) behind (turn-back-leads q limit h) 3652060 (from t) w d e in
+    (record { dated = s .dated; few = omega (arith, s .counted, behind-is t, number-to t (date-yes t d)) }, s .there)
+
+-- the last turn of a walk: none was made, or the walk stood at x with more to go
+pub data LastTurn (more : Date → Bool) (turn : Walked → Outcome Walked) (w v : Walked) : Type 0 where
+  none-made : w ≡ v → LastTurn more turn w v
+  made : (x : Walked) → isDate (x .at) ≡ true → more (x .at) ≡ true → turn x ≡ given v → LastTurn more turn w v
+
+pub last-turn : (more : Date → Bool) (turn : Walked → Outcome Walked) (φ : Date → ℕ) → ((w v : Walked) → isDate (w .at) ≡ true → turn w ≡ given v → Turned φ w v) → (k : ℕ) (w v : Walked) → isDate (w .at) ≡ true → walk k more turn w ≡ given v → LastTurn more turn w v
+unfolding walk
+last-turn more turn φ leads zero w v d e = absurd (given-not-refused (sym e))
+last-turn more turn φ leads (suc k) w v d e = by (more (w .at)) refl (last-turn more turn φ leads k)
+  where
+    on : (x : Walked) → turn w ≡ given x → more (w .at) ≡ true → LastTurn more turn x v → LastTurn more turn w v
+    on x t h (none-made q) = made w d h (t ∙ ap given q)
+    on x t h (made y i j l) = made y i j l
+
+    by : (b : Bool) → more (w .at) ≡ b → ((x y : Walked) → isDate (x .at) ≡ true → walk k more turn x ≡ given y → LastTurn more turn x y) → LastTurn more turn w v
+    by false h r = none-made (given-injective (sym (walk-there more turn k w h) ∙ e))
+    by true h r =
+        let g = then-given (turn w) (walk k more turn) v (sym (walk-more more turn k w h) ∙ e) in
+        on (g .0) (g .1) h (r (g .0) v (leads w (g .0) d (g .1) .dated) (g .2))
+
+-- what a walk adds up: where each turn keeps m times the count and ψ from rising together, so does the walk
+pub walk-keeps : (more : Date → Bool) (turn : Walked → Outcome Walked) (ψ : Walked → ℕ) → ((w v : Walked) → isDate (w .at) ≡ true → turn w ≡ given v → (isDate (v .at) ≡ true) × (ψ v ≤ ψ w)) → (k : ℕ) (w v : Walked) → isDate (w .at) ≡ true → walk k more turn w ≡ given v → ψ v ≤ ψ w
+unfolding walk
+walk-keeps more turn ψ keeps zero w v d e = absurd (given-not-refused (sym e))
+walk-keeps more turn ψ keeps (suc k) w v d e = by (more (w .at)) refl (walk-keeps more turn ψ keeps k)
+  where
+    by : (b : Bool) → more (w .at) ≡ b → ((x y : Walked) → isDate (x .at) ≡ true → walk k more turn x ≡ given y → ψ y ≤ ψ x) → ψ v ≤ ψ w
+    by false h r = let q : w ≡ v = given-injective (sym (walk-there more turn k w h) ∙ e) in rw q (omega arith)
+    by true h r =
+        let g = then-given (turn w) (walk k more turn) v (sym (walk-more more turn k w h) ∙ e) in
+        let s = keeps w (g .0) d (g .1) in
+        omega (arith, s .1, r (g .0) v (s .0) (g .2))

@@ -1,0 +1,47 @@
+-- What the inner functions hand each other; no promise of an entry point rests on this.
+-- Assumes nothing.
+use Prim.Native.Nat.{ℕ, _+_, _≤_, _<_}
+use mathlib.Core.Path.{_≡_}
+use mathlib.Core.List.{List, [], _∷_}
+use lib.ListN.{length}
+use lib.Ieee.{Float}
+use Rattle.paper.specs.Outcome.{Outcome, given, refused, andThen, value}
+use Rattle.text.specs.Writing.{lengthOutcome, Written}
+use Rattle.text.specs.declared.LengthAnswer.{LengthAnswer}
+use Rattle.text.specs.declared.LengthAnswer.the-variants.{Length, Refused}
+use Rattle.cash_amount.specs.declared.Currency.{Currency}
+use Rattle.cash_flow.specs.Flows.{dateOn}
+use Rattle.cash_flow.specs.declared.CashFlow.{CashFlow}
+use Rattle.note_lines.specs.Lines.{answerText}
+
+-- a flow from its serial day and its amount
+abbrev pub flowOn : Currency → ℕ → Float → CashFlow
+flowOn c d x = record { date = dateOn d; currency = c; amount = x }
+
+-- flows from two lists
+abbrev pub flowsIn : Currency → List ℕ → List Float → List CashFlow
+flowsIn c [] xs = []
+flowsIn c (d ∷ ds) [] = []
+flowsIn c (d ∷ ds) (x ∷ xs) = flowOn c d x ∷ flowsIn c ds xs
+
+-- how many bytes lines take
+abbrev pub Taken : Outcome (List ℕ) → LengthAnswer → Type 0
+Taken o r = lengthOutcome r ≡ andThen o (λ t. given (length t))
+
+-- a length that is given is at most n
+abbrev pub AtMost : ℕ → LengthAnswer → Type 0
+AtMost n (Length k) = k ≤ n
+AtMost n (Refused k) = 0 < 1
+
+-- text that is given
+abbrev pub textOf : Outcome (List ℕ) → List ℕ
+textOf o = value [] o
+
+-- text that is given and has room from a place on
+abbrev pub LineFits : Outcome (List ℕ) → ℕ → ℕ → Type 0
+LineFits (given t) places at = at + length t ≤ places
+LineFits (refused n) places at = ⊥
+
+-- the lines, or the refusal, written at the start of lent bytes, and not longer than 2,000 lines of 331 bytes
+abbrev pub LinesWritten : Outcome (List ℕ) → List ℕ → List ℕ → LengthAnswer → Type 0
+LinesWritten o d e r = (Written d e (answerText o) (lengthOutcome r)) × (length (answerText o) ≤ 662000)

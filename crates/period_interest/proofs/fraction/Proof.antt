@@ -1,0 +1,22 @@
+-- `period_interest::fraction` meets its contract: the dates are judged, and the roll date is the start.
+-- Assumes nothing.
+use mathlib.Core.Path.{sym, _∙_}
+use Rattle.day_count_conv.specs.Conventions.{inBits}
+use Rattle.day_count_conv.proofs.Judged.{span-fraction, roll-dated}
+use Rattle.period_interest.specs.PeriodInterest.{rolled}
+use Rattle.period_interest.proofs.fraction.Statement.{statement}
+use Rattle.period_interest.proofs.fraction.Tie as tie
+
+fraction-judged-requires : tie.Need-fraction-judged-requires
+fraction-judged-requires c κs =
+    let s : tie.Start = c .before .before in
+    (record { first = s .pre .0; last = s .pre .1; order = s .pre .2 }, roll-dated (s .args .note .«day_count_convention») (s .args .p .start) (s .pre .0))
+
+returns : tie.Need-returns
+returns c =
+    let s : tie.Start = c .before .before .before in
+    c .fraction-judged .ensures
+    ∙ sym (span-fraction inBits (s .args .note .«day_count_convention») (s .args .p .start) (s .args .p .end) (rolled (s .args .note) (s .args .p)) (record { first = s .pre .0; last = s .pre .1; order = s .pre .2 }) (roll-dated (s .args .note .«day_count_convention») (s .args .p .start) (s .pre .0)))
+
+pub fraction-spec : {M : Type 1} → statement M
+fraction-spec = tie.close (tie.spec fraction-judged-requires returns)

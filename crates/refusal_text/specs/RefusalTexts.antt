@@ -1,0 +1,13 @@
+-- A refusal as it is written.
+-- Assumes nothing.
+use Prim.Native.Nat.{ℕ}
+use mathlib.Core.List.{List, [], _∷_, _++_}
+use Rattle.text.specs.Writing.{decimalText}
+
+-- a number and a line feed
+unfoldable pub numberText : ℕ → List ℕ
+numberText n = decimalText n ++ (10 ∷ [])
+
+-- a refusal writes `refused N`
+unfoldable pub refusedText : ℕ → List ℕ
+refusedText n = (114 ∷ 101 ∷ 102 ∷ 117 ∷ 115 ∷ 101 ∷ 100 ∷ 32 ∷ []) ++ numberText n

@@ -1,10 +1,11 @@
 -- Case m of the desk card, and the order of the refusals and of the zeros, as theorems about the definitions.
 -- Assumes nothing.
-use Prim.Native.Nat.{ℕ, _*_}
+use Prim.Native.Nat.{_*_}
 use mathlib.Core.Path.{_≡_, refl}
 use mathlib.Core.Bool.{false}
 use lib.IntN.{ℤ, pos}
 use lib.Ieee.{Float, nan, fin, binary64, add, mul, div, ofInt, ofBits}
+use Rattle.paper.specs.Walks.{walked}
 use Rattle.paper.specs.Outcome.{given, refused}
 use Rattle.gregorian.specs.Gregorian.{leap, lengthIn, monthLength, yearLength, before}
 use Rattle.calendar.specs.Dates.{isDate, isBefore, isSame, dayNumber, monthDate}
@@ -14,9 +15,8 @@ use Rattle.time_period.specs.Periods.{monthsFrequency, yearsFrequency, frequenc
 use Rattle.time_period.specs.declared.TimePeriodUnit.the-variants as unit
 use Rattle.coupon_date.specs.Coupons.{couponDate}
 use Rattle.coupon_date.specs.declared.CouponDate.{CouponDate}
-use Rattle.day_fraction.specs.Exact.{Exact}
 use Rattle.day_fraction.specs.Fractions.{exactFraction, bits, impossible}
-use Rattle.icma.specs.Walk.{walk, turnOn, walkOn, turnBack, walkBack, baseFrom, shortParts, firstPart, lastPart, toLast, toEnd, toFirst, longParts, partsFrom, icmaParts}
+use Rattle.icma.specs.Walk.{turnOn, walkOn, turnBack, walkBack, baseFrom, shortParts, firstPart, lastPart, toLast, toEnd, toFirst, longParts, partsFrom, icmaParts}
 use Rattle.day_count_conv.specs.Conventions.{simpleFraction, walkedFraction, frequentFraction, yearFraction}
 use Rattle.day_count_conv.specs.declared.DayCountConv.{DayCountConv}
 use Rattle.day_count_conv.specs.declared.DayCountConv.the-variants as conv
@@ -24,11 +24,11 @@ use Rattle.day_adjust.specs.declared.DayAdjust.the-variants as rule
 use Rattle.cash_amount.specs.Amounts.{isCapital, isCurrency}
 use Rattle.bond.specs.Notes.{isNoteNumber, isRate, periodChecks, termChecks, noteChecks, inYearOf, firstCouponEnd}
 use Rattle.bond.specs.declared.Note.{Note}
-use Rattle.bond.proofs.Examples.{on, every, numbered, euro, listed}
-use Rattle.accrued_interest.specs.Accrued.{nextPeriod, goesOn, periodWithin, periodHolding, amountDue, accruedIn, accruedFrom, accruedOn, accrued, inBits, exactly}
-
-abbrev over : ℤ → ℕ → Exact
-over n d = record { num = n; den = d }
+use Rattle.calendar.proofs.Examples.{on}
+use Rattle.bond.proofs.Examples.{every, numbered, euro, listed}
+use Rattle.accrued_interest.specs.Accrued.{nextPeriod, goesOn, periodHolding, amountDue, accruedIn, accruedFrom, accruedOn, accrued, inBits, exactly}
+use Rattle.coupon_date.proofs.Examples.{on as dayMonth}
+use Rattle.day_fraction.proofs.Examples.{fraction as over}
 
 -- a note of 1000 EUR with a coupon each n months
 abbrev noteOf : Float → Date → Date → CouponDate → ℤ → DayCountConv → Note
@@ -45,9 +45,6 @@ noteOf rate issue maturity coupon n c =
       rate = rate;
       currency = euro;
     }
-
-abbrev dayMonth : ℕ → ℕ → CouponDate
-dayMonth d m = record { day = d; month = m }
 
 abbrev four : Float
 four = fin false 1 (pos 2)
@@ -75,7 +72,7 @@ pub record Card : Type 0 where
   pub m-bits : accrued inBits listed (on 2021 4 15) ≡ given (ofBits binary64 0x4023e3b673fa57b1)
 
 pub card : Card
-unfolding isNoteNumber isRate isCapital isCurrency leap lengthIn monthLength yearLength before isDate isBefore isSame dayNumber couponDate existingDate periodChecks termChecks noteChecks inYearOf firstCouponEnd exactFraction bits impossible simpleFraction yearFraction nextPeriod goesOn periodWithin periodHolding amountDue accruedIn accruedFrom accruedOn accrued add mul div ofInt ofBits
+unfolding isNoteNumber isRate isCapital isCurrency leap lengthIn monthLength yearLength before isDate isBefore isSame dayNumber couponDate existingDate periodChecks termChecks noteChecks inYearOf firstCouponEnd exactFraction bits impossible simpleFraction yearFraction nextPeriod goesOn walked periodHolding amountDue accruedIn accruedFrom accruedOn accrued add mul div ofInt ofBits
 card = record { m = refl; reduced = refl; m-bits = refl }
 
 -- where nothing is accrued, and what comes before it
@@ -93,7 +90,7 @@ pub record Zeros : Type 0 where
   pub note-first : accrued exactly unrated (on 2021 2 29) ≡ refused 15
 
 pub zeros : Zeros
-unfolding isNoteNumber isRate isCapital isCurrency leap lengthIn monthLength yearLength before isDate isBefore isSame dayNumber monthDate couponDate existingDate landing monthsLater monthsFrequency yearsFrequency frequencyOf periodChecks termChecks noteChecks inYearOf firstCouponEnd exactFraction impossible simpleFraction walkedFraction frequentFraction yearFraction nextPeriod goesOn periodWithin periodHolding amountDue accruedIn accruedFrom accruedOn accrued
+unfolding isNoteNumber isRate isCapital isCurrency leap lengthIn monthLength yearLength before isDate isBefore isSame dayNumber monthDate couponDate existingDate landing monthsLater monthsFrequency yearsFrequency frequencyOf periodChecks termChecks noteChecks inYearOf firstCouponEnd exactFraction impossible simpleFraction walkedFraction frequentFraction yearFraction nextPeriod goesOn walked periodHolding amountDue accruedIn accruedFrom accruedOn accrued
 zeros =
     record {
       before-issue = refl;
@@ -117,5 +114,5 @@ pub record Periods : Type 0 where
   pub rolled-from-issue : accrued exactly quarterly (on 2021 4 30) ≡ given (over (pos 44520000) 3822000)
 
 pub periods : Periods
-unfolding isNoteNumber isRate isCapital isCurrency leap lengthIn monthLength yearLength before isDate isBefore isSame dayNumber monthDate couponDate existingDate landing monthsLater monthsFrequency yearsFrequency frequencyOf periodChecks termChecks noteChecks inYearOf firstCouponEnd exactFraction impossible walk turnOn walkOn turnBack walkBack baseFrom shortParts firstPart lastPart toLast toEnd toFirst longParts partsFrom icmaParts simpleFraction walkedFraction frequentFraction yearFraction nextPeriod goesOn periodWithin periodHolding amountDue accruedIn accruedFrom accruedOn accrued
+unfolding isNoteNumber isRate isCapital isCurrency leap lengthIn monthLength yearLength before isDate isBefore isSame dayNumber monthDate couponDate existingDate landing monthsLater monthsFrequency yearsFrequency frequencyOf periodChecks termChecks noteChecks inYearOf firstCouponEnd exactFraction impossible walked turnOn walkOn turnBack walkBack baseFrom shortParts firstPart lastPart toLast toEnd toFirst longParts partsFrom icmaParts simpleFraction walkedFraction frequentFraction yearFraction nextPeriod goesOn periodHolding amountDue accruedIn accruedFrom accruedOn accrued
 periods = record { on-the-end = refl; next-day = refl; third = refl; rolled-from-issue = refl }

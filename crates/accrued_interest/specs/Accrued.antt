@@ -1,10 +1,11 @@
 -- Accrued interest on one note: its refusals in their order, its f64, and its exact value. What accrues in one period is that of `period_interest`.
 -- Assumes nothing.
-use Prim.Native.Nat.{ℕ, zero, suc, _≤_}
+use Prim.Native.Nat.{_≤_}
 use mathlib.Core.Path.{_≡_}
-use mathlib.Core.Bool.{Bool, true, false}
+use mathlib.Core.Bool.{Bool, true}
 use lib.Ieee.{Float}
 use Rattle.paper.specs.Outcome.{Outcome, given, refused, unless, andThen, pick, both}
+use Rattle.paper.specs.Walks.{walked}
 use Rattle.rounding.specs.Close.{Close}
 use Rattle.calendar.specs.Dates.{isDate, isBefore}
 use Rattle.calendar.specs.declared.Date.{Date}
@@ -38,12 +39,8 @@ unfoldable pub goesOn : Note → Date → CouponPeriod → Bool
 goesOn n today p = both (isBefore (p .end) today) (isBefore (p .end) (n .maturity))
 
 -- the period where it stops; the calendar has no more than 3652060 steps
-unfoldable pub periodWithin : ℕ → Note → Date → CouponPeriod → Outcome CouponPeriod
-periodWithin zero n today p = refused 1
-periodWithin (suc k) n today p = elim (goesOn n today p) [ true ↦ andThen (nextPeriod n p) (periodWithin k n today) | false ↦ given p ]
-
 unfoldable pub periodHolding : Note → Date → CouponPeriod → Outcome CouponPeriod
-periodHolding n today first = periodWithin 3652060 n today first
+periodHolding n today first = walked 3652060 (goesOn n today) (nextPeriod n) first
 
 unfoldable pub accruedFrom : {A : Type 0} → Amounts A → Note → Date → CouponPeriod → Outcome A
 accruedFrom v n today first = andThen (periodHolding n today first) (accruedIn v n today)

@@ -7,18 +7,19 @@ use mathlib.Core.Bool.{Bool, true, false, cond}
 use native.Mathlib.Nat.{eq-or-lt-of-le, mul-one, mul-le-mul, mul-le-mul-right, mul-lt-mul-of-pos-right}
 use native.Mathlib.Decide.{decLt}
 use native.Mathlib.Omega.{arith}
-use lib.Dec.{T, eqb, ltb, leb, le→leb}
+use lib.Dec.{T, ltb, leb, le→leb}
 use lib.IntN.{pos}
 use lib.Pow.{pow-pos, pow-mono}
-use lib.Ieee.{Float, nan, inf, Format, prec, emax, low, up, down, binary64, odd, units, round, neg, ofInt, ofFields, ofBits, toBits, fits, inFloat}
+use lib.Ieee.{Float, inf, Format, prec, emax, low, up, down, binary64, odd, units, round, neg, ofInt, ofFields, ofBits, toBits, fits, inFloat}
 use lib.Ieee.Bits.{ofBits-toBits}
-use lib.Ieee.Exact.{HasValue, odd-sign}
+use lib.Ieee.Exact.{HasValue}
 use lib.Ieee.Fits.{down-pos, round-is}
 use lib.Ieee.Order.{drop, kept}
 use lib.Ieee.Positive.{num, den}
 use lib.Ieee.Scale.{finite}
-use borrow.Author.Tests.{ne-eqb, le-leb, lt-leb}
+use borrow.Author.Tests.{le-leb, lt-leb}
 use Rattle.rounding.proofs.Operations.{by-value}
+use Rattle.rounding.proofs.Fields.{few-value, some-value, not-finite}
 use Rattle.amount_rounding.specs.RoundedAmounts.{nearestWhole, roundedAway}
 use Rattle.amount_rounding.specs.Fields.{sizeOf}
 use Rattle.amount_rounding.proofs.Whole.{nearest-same}
@@ -53,9 +54,9 @@ away-of-value v s a c C h =
 -- ---- by its fields
 
 fields-value : (s : Bool) (f m : ℕ) → f < 2047 → HasValue (ofFields binary64 s f m) s (sizeOf f m) (2 ^ 1074)
-unfolding ofFields sizeOf
-fields-value s zero m h = subst (λ (n : ℕ). HasValue (odd 53 s m 0 1074) s n (2 ^ 1074)) (mul-one m) (odd-sign 53 s m 0 1074)
-fields-value s (suc k) m h = rw (ne-eqb (suc k) 2047 (λ e. omega arith)) (odd-sign 53 s (4503599627370496 + m) k 1074)
+unfolding sizeOf
+fields-value s zero m h = subst (λ (n : ℕ). HasValue (ofFields binary64 s 0 m) s n (2 ^ 1074)) (mul-one m) (few-value s m)
+fields-value s (suc k) m h = some-value s k m h
 
 -- a number of the field 1075 or more is not below 2 ^ 52
 too-large : (q n D U W : ℕ) → 0 < U → U ≤ W → 4503599627370496 ≤ q → n * U ≡ q * W * D → n < 4503599627370496 * D → ⊥
@@ -64,14 +65,6 @@ too-large q n D U W u h l e b =
     let j : 4503599627370496 * U ≤ q * W = mul-le-mul l h in
     let k : 4503599627370496 * U * D ≤ q * W * D = mul-le-mul-right D j in
     omega arith
-
-no-size : (s : Bool) (m : ℕ) → T (finite (ofFields binary64 s 2047 m)) → ⊥
-unfolding ofFields
-no-size s m = go (eqb m 0)
-  where
-    go : (c : Bool) → T (finite (cond c (inf s) nan)) → ⊥
-    go true t = t
-    go false t = t
 
 field-some : (s : Bool) (f m : ℕ) → f < 2047 → num (ofFields binary64 s f m) < 2 ^ 52 * den (ofFields binary64 s f m) → f ≤ 1074
 unfolding sizeOf
@@ -85,7 +78,7 @@ field-some s (suc j) m k b = by (decLt 1074 (suc j))
         absurd (too-large (4503599627370496 + m) (num v) (den v) (2 ^ 1074) (2 ^ j) (pow-pos 1074) (pow-mono {i = 1074} {j = j} (omega arith)) (omega arith) (value-cross v s ((4503599627370496 + m) * 2 ^ j) (2 ^ 1074) (fields-value s (suc j) m k)) b)
 
 field-most : (s : Bool) (f m : ℕ) → f ≤ 2047 → T (finite (ofFields binary64 s f m)) → num (ofFields binary64 s f m) < 2 ^ 52 * den (ofFields binary64 s f m) → f ≤ 1074
-field-most s f m h t b = ⊎-elim (λ e. absurd (no-size s m (subst (λ (g : ℕ). T (finite (ofFields binary64 s g m))) e t))) (λ k. field-some s f m k b) (eq-or-lt-of-le h)
+field-most s f m h t b = ⊎-elim (λ e. absurd (subst T (not-finite s m) (subst (λ (g : ℕ). T (finite (ofFields binary64 s g m))) e t))) (λ k. field-some s f m k b) (eq-or-lt-of-le h)
 
 fields-small : (s : Bool) (f m : ℕ) → f ≤ 1074 → round binary64 s (nearestWhole (sizeOf f m) (2 ^ 1074)) 1 ≡ roundedAway (ofFields binary64 s f m)
 fields-small s f m h = away-of-value (ofFields binary64 s f m) s (sizeOf f m) (2 ^ 1074) (pow-pos 1074) (fields-value s f m (omega arith))

@@ -1,10 +1,10 @@
 -- What the rounding means, once for every number of digits: the whole number chosen is at most a half from the f64 product,
 -- from exactly half way it is the one away from zero, and the sign is the amount's.
 -- Assumes nothing.
-use Prim.Native.Nat.{ℕ, _+_, _*_, _^_, _≤_, _<_, zero-le}
+use Prim.Native.Nat.{ℕ, _+_, _*_, _^_, _≤_, _<_}
 use mathlib.Core.Path.{_≡_, refl, sym, ap, _∙_, subst}
 use mathlib.Core.Bool.{Bool, true, false, not, true≢false}
-use native.Mathlib.Nat.{le-of-lt, mul-le-mul-left, le-trans, mul-right-comm, mul-le-mul, mul-le-mul-right, mul-lt-mul-of-pos-right, le-of-mul-le-mul-right, lt-of-mul-lt-mul-right, pow-le-pow-right, mul-pos}
+use native.Mathlib.Nat.{one-le-pow, le-of-lt, mul-le-mul-left, le-trans, mul-right-comm, mul-le-mul, mul-le-mul-right, mul-lt-mul-of-pos-right, le-of-mul-le-mul-right, lt-of-mul-lt-mul-right, pow-le-pow-right, mul-pos}
 use native.Mathlib.Omega.{arith}
 use lib.Dec.{T, lit≤}
 use lib.IntN.{ℤ, pos, negsuc, natAbs}
@@ -64,9 +64,6 @@ rounded-away (fin s m e) f h =
 power-most : (d : ℤ) → isWidth d ≡ true → 10 ^ natAbs d ≤ 10000
 power-most (pos n) h = pow-le-pow-right {n = 10} (omega arith) {i = n} {j = 4} (leb-true n 4 h)
 power-most (negsuc n) h = absurd (true≢false (sym h))
-
-power-some : (d : ℤ) → 0 < 10 ^ natAbs d
-power-some d = pow-le-pow-right {n = 10} (omega arith) {i = 0} {j = natAbs d} zero-le
 
 power-value : (d : ℤ) → isWidth d ≡ true → HasValue (powerOfTen d) false (10 ^ natAbs d) 1
 unfolding powerOfTen ofInt
@@ -215,7 +212,7 @@ module _ (d : ℤ) (width : isWidth d ≡ true) (s : Bool) (m : ℕ) (e : ℤ) (
           above-exact w (num y) (den y) (near .size) (2 ^ 1074) (2 ^ 1065) n (down e) (den-pos y) (pow-pos 1074) refl crossed (whole .near .0) (near .near .0),
           below-exact w (num y) (den y) (near .size) (2 ^ 1074) (2 ^ 1065) n (down e) (den-pos y) (pow-pos 1074) refl crossed (whole .near .1) (near .near .1),
         );
-        answer = quotient-is (whole .sign) w (roundedAway y) (powerOfTen d) (10 ^ natAbs d) (whole .value) (power-value d width) (power-some d);
+        answer = quotient-is (whole .sign) w (roundedAway y) (powerOfTen d) (10 ^ natAbs d) (whole .value) (power-value d width) (one-le-pow (natAbs d) 10 (omega arith));
       }
 
 pub rounding-means : (x : Float) (d : ℤ) → isRoundable x d ≡ true → Rounding x d

@@ -18,7 +18,8 @@ use Rattle.text.specs.Writing.{decimalText}
 use Rattle.text_lengths.proofs.Digits.{decimal-within}
 use Rattle.cash_amount.specs.Amounts.{currencyText}
 use Rattle.cash_amount.specs.declared.Currency.{Currency}
-use Rattle.four_decimals.proofs.Texts.{signed-long, four-long, sign-short}
+use Rattle.text_lengths.proofs.Signs.{sign-within}
+use Rattle.four_decimals.proofs.Texts.{signed-long, four-long}
 use Rattle.decimal.specs.Decimal.{isMinus, tenThousandths, decimalText16}
 use Rattle.decimal.proofs.Halves.{closest-whole}
 use Rattle.amount_text.specs.AmountTexts.{amountText}
@@ -50,7 +51,7 @@ decimal-long x h f =
     let whole : t / 10000 ≤ 2 ^ 1024 = div-le-of-le-mul 10000 (tens-most x h f) in
     let few : t / 10000 < 10 ^ 309 = lt-of-le-of-lt whole (lit< tt) in
     let w : length (decimalText (t / 10000)) ≤ 309 = decimal-within 309 (t / 10000) (omega arith) few in
-    omega (arith, signed-long (isMinus x) t, four-long t, sign-short (isMinus x))
+    omega (arith, signed-long (isMinus x) t, four-long t, sign-within (isMinus x))
 
 -- ---- an amount
 

@@ -2,9 +2,9 @@
 use Prim.Native.Nat.{ℕ, zero, suc, _+_, _-_, _*_, _/_, _%_, _^_, _≤_, _<_}
 use mathlib.Core.Path.{_≡_, sym, ap, _∙_, subst}
 use mathlib.Core.List.{List, [], _∷_, _++_, append-nil}
-use native.Mathlib.Nat.{mul-assoc, mul-right-comm, add-mul, sub-self, zero-add, add-zero, mod-eq-of-lt, one-mul, mul-le-mul-right}
+use native.Mathlib.Nat.{mul-assoc, mul-right-comm, add-mul, sub-self, zero-add, add-zero, mul-le-mul-right}
 use native.Mathlib.Omega.{arith}
-use lib.Pow.{pow-add, pow-lt}
+use lib.Pow.{pow-add}
 use lib.ListN.{length, take, set, getD}
 use lib.Seq.{take-set-le, take-length, take-at, drop-length, getD-at, getD-take, take-take}
 use Rattle.text.specs.Writing.{digits, put}
@@ -92,6 +92,3 @@ scaled-more o p k n m i j l len e q s f =
     let r : p ≡ digits (length o) (n * 2 ^ i * m) = f (n * 2 ^ i) (rw (len) e) in
     let twos : 2 ^ i * 2 ^ j ≡ 2 ^ l = sym (pow-add 2 i j) ∙ ap (λ (x : ℕ). 2 ^ x) s in
     r ∙ rw (len, q) (ap (digits k) (mul-assoc n (2 ^ i) (2 ^ j) ∙ ap (λ (x : ℕ). n * x) twos))
-
-pub shifted-one : (p : ℕ) → p ≤ 48 → 1 * 2 ^ p % 18446744073709551616 ≡ 2 ^ p
-shifted-one p h = rw (one-mul (2 ^ p)) (mod-eq-of-lt {m = 18446744073709551616} (pow-lt {j = 64} (omega arith)))

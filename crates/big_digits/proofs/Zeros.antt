@@ -4,15 +4,16 @@ use mathlib.Core.Path.{_≡_, refl, ap, _∙_}
 use mathlib.Core.Bool.{Bool, true, false}
 use mathlib.Core.List.{List, [], _∷_}
 use mathlib.Core.Logic.{⊎-elim}
-use native.Mathlib.Nat.{pow-suc, div-eq-of-lt, div-lt-iff-lt-mul, le-div-iff-mul-le, pow-le-pow-right}
+use native.Mathlib.Nat.{one-le-pow, pow-suc, div-eq-of-lt, div-lt-iff-lt-mul, le-div-iff-mul-le, pow-le-pow-right}
 use native.Mathlib.Omega.{arith}
 use lib.Dec.{eqb}
 use lib.ListN.{length, drop, getD, drop-of-length-le}
 use borrow.Author.Tests.{eq-eqb, ne-eqb}
 use Rattle.paper.specs.Outcome.{pick}
 use Rattle.text.specs.Writing.{digits, places}
-use Rattle.text_lengths.proofs.Digits.{pow-some, lt-or-le, digits-first, places-few, places-least, places-enough}
-use Rattle.reading.proofs.Decimals.{byte-first}
+use Rattle.text_lengths.proofs.Digits.{digits-first, places-few, places-least, places-enough}
+use Rattle.paper.proofs.Lists.{head-at}
+use Rattle.paper.proofs.Numbers.{lt-or-le}
 use Rattle.big_digits.specs.BigDigits.{zerosLeading}
 
 -- ---- counted up from the start
@@ -20,13 +21,13 @@ use Rattle.big_digits.specs.BigDigits.{zerosLeading}
 pub zeros-more : (s : List ℕ) (i z : ℕ) → i + zerosLeading (drop i s) ≡ z → i < length s → getD s i 0 ≡ 48 → i + 1 + zerosLeading (drop (i + 1) s) ≡ z
 unfolding zerosLeading
 zeros-more s i z e h f =
-    let g = rw (byte-first s i h, eq-eqb (getD s i 0) 48 f) at e in
+    let g = rw (head-at s i 0 h, eq-eqb (getD s i 0) 48 f) at e in
     omega arith
 
 pub zeros-stop : (s : List ℕ) (i z : ℕ) → i + zerosLeading (drop i s) ≡ z → i < length s → (getD s i 0 ≡ 48 → ⊥) → i ≡ z
 unfolding zerosLeading
 zeros-stop s i z e h f =
-    let g = rw (byte-first s i h, ne-eqb (getD s i 0) 48 f) at e in
+    let g = rw (head-at s i 0 h, ne-eqb (getD s i 0) 48 f) at e in
     omega arith
 
 pub zeros-end : (s : List ℕ) (i z : ℕ) → i + zerosLeading (drop i s) ≡ z → length s ≤ i → i ≡ z
@@ -68,8 +69,8 @@ zero-more k w h =
 
 zero-none : (k w : ℕ) → 10 ^ suc k ≤ w → w < 10 ^ suc (suc k) → zerosLeading (digits (suc k) (w / 10)) ≡ 0
 zero-none k w l h =
-    let low : 1 ≤ w / 10 / 10 ^ k = le-div-iff-mul-le {k = 10 ^ k} (pow-some k) .1 (omega (arith, pow-suc 10 k)) in
-    let high : w / 10 / 10 ^ k < 10 = div-lt-iff-lt-mul {k = 10 ^ k} (pow-some k) .1 (omega (arith, pow-suc 10 k, pow-suc 10 (suc k))) in
+    let low : 1 ≤ w / 10 / 10 ^ k = le-div-iff-mul-le {k = 10 ^ k} (one-le-pow k 10 (omega arith)) .1 (omega (arith, pow-suc 10 k)) in
+    let high : w / 10 / 10 ^ k < 10 = div-lt-iff-lt-mul {k = 10 ^ k} (one-le-pow k 10 (omega arith)) .1 (omega (arith, pow-suc 10 k, pow-suc 10 (suc k))) in
     ap zerosLeading (digits-first k (w / 10)) ∙ other-first (48 + w / 10 / 10 ^ k % 10) (digits k (w / 10)) (λ e. omega arith)
 
 pub zeros-before : (k w : ℕ) → w < 10 ^ suc k → zerosLeading (digits k (w / 10)) + places w ≡ suc k

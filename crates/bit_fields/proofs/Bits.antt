@@ -3,126 +3,67 @@
 use Prim.Native.Nat.{ℕ, zero, suc, _+_, _-_, _*_, _/_, _%_, _^_, _≤_, _<_}
 use mathlib.Core.Path.{_≡_, refl, sym, ap, subst, _∙_}
 use mathlib.Core.List.{List, [], _∷_, _++_, append-assoc, append-nil}
-use native.Mathlib.Nat.{pow-suc, add-zero, add-suc, add-assoc, add-mul, mul-assoc, mul-comm, one-mul, mul-le-mul-right, mod-eq-of-lt, lt-of-lt-of-le, div-div-eq-div-mul, div-one}
-use native.Mathlib.Numerals.{add-one, one-add}
+use native.Mathlib.Nat.{zero-add, sub-zero, add-assoc, add-mul, mul-assoc, mod-eq-of-lt, lt-of-lt-of-le}
 use native.Mathlib.Omega.{arith}
 use lib.Arith.{digits-div, digits-mod}
-use lib.Pow.{mod-pow-add, pow-add, pow-lt, pow-mono}
+use lib.Pow.{pow-add, pow-mono}
 use lib.ListN.{length, take, drop, getD, length-append, length-drop, take-append-drop}
 use lib.Seq.{take-suc, take-add, take-at, drop-at, drop-nil, drop-drop, drop-append-add, getD-drop, length-take-le}
+use Rattle.paper.specs.Lists.{Every}
+use Rattle.paper.proofs.Lists.{every-append, every-take, every-drop}
+use Rattle.text_lengths.proofs.Numerals.{numeral, worth, Digit, length-numeral, numeral-are, numeral-split, worth-append, worth-value, worth-below, worth-numeral, numeral-worth}
 use Rattle.bit_fields.specs.Bits.{Field, fieldBits, fieldsBits, continuedBits, bitsNumber, bitsOf, field, bytesNumber, bytesOf, AreBytes}
+
+-- ---- bits are numerals to the base two
+
+abbrev pub Bit : ℕ → Type 0
+Bit = Digit 2 0
 
 -- every one is a bit
 abbrev pub AreBits : List ℕ → Type 0
-AreBits [] = 0 < 1
-AreBits (b ∷ s) = (b < 2) × AreBits s
+AreBits s = Every Bit s
 
-pub bits-append : (s t : List ℕ) → AreBits s → AreBits t → AreBits (s ++ t)
-bits-append [] t h k = k
-bits-append (b ∷ s) t h k = (h .0, bits-append s t (h .1) k)
+field-numeral : (w n : ℕ) → fieldBits w n ≡ numeral 2 0 w n
+unfolding fieldBits numeral
+field-numeral zero n = refl
+field-numeral (suc w) n = rw (field-numeral w (n / 2), zero-add (n % 2))
 
-pub bits-take : (n : ℕ) (s : List ℕ) → AreBits s → AreBits (take n s)
-bits-take zero s h = omega arith
-bits-take (suc n) [] h = h
-bits-take (suc n) (b ∷ s) h = (h .0, bits-take n s (h .1))
-
-pub bits-drop : (n : ℕ) (s : List ℕ) → AreBits s → AreBits (drop n s)
-bits-drop zero s h = h
-bits-drop (suc n) [] h = h
-bits-drop (suc n) (b ∷ s) h = bits-drop n s (h .1)
+bits-worth : (v : ℕ) (s : List ℕ) → continuedBits v s ≡ worth 2 0 v s
+unfolding continuedBits worth
+bits-worth v [] = refl
+bits-worth v (b ∷ s) = rw (sub-zero b) (bits-worth (v * 2 + b) s)
 
 -- ---- a field of a number
 
 pub length-field : (w n : ℕ) → length (fieldBits w n) ≡ w
-unfolding fieldBits
-length-field zero n = refl
-length-field (suc w) n = omega (arith, length-append (fieldBits w (n / 2)) (n % 2 ∷ []), length-field w (n / 2))
+length-field w n = rw (field-numeral w n) (length-numeral 2 0 w n)
 
 pub one-field : (f : Field) → fieldsBits (f ∷ []) ≡ fieldBits (f .width) (f .number)
 unfolding fieldsBits
 one-field f = append-nil (fieldBits (f .width) (f .number))
 
 pub field-bits : (w n : ℕ) → AreBits (fieldBits w n)
-unfolding fieldBits
-field-bits zero n = omega arith
-field-bits (suc w) n = bits-append (fieldBits w (n / 2)) (n % 2 ∷ []) (field-bits w (n / 2)) (omega arith, omega arith)
-
-split-more : (a b n : ℕ) → fieldBits (a + b) (n / 2) ≡ fieldBits a (n / 2 / 2 ^ b) ++ fieldBits b (n / 2) → fieldBits (suc (a + b)) n ≡ fieldBits a (n / 2 ^ suc b) ++ fieldBits (suc b) n
-unfolding fieldBits
-split-more a b n e =
-    let p : n / 2 / 2 ^ b ≡ n / 2 ^ suc b = div-div-eq-div-mul n 2 (2 ^ b) ∙ ap (λ (x : ℕ). n / x) (mul-comm 2 (2 ^ b) ∙ sym (pow-suc 2 b)) in
-    rw (e, p) (append-assoc (fieldBits a (n / 2 ^ suc b)) (fieldBits b (n / 2)) (n % 2 ∷ []))
-
-split-none : (a n : ℕ) → fieldBits a n ≡ fieldBits a (n / 2 ^ 0) ++ fieldBits 0 n
-unfolding fieldBits
-split-none a n = ap (fieldBits a) (sym (div-one n)) ∙ sym (append-nil (fieldBits a (n / 2 ^ 0)))
+field-bits w n = rw (field-numeral w n) (numeral-are 2 0 (omega arith) w n)
 
 -- a field in two
 pub field-split : (a b n : ℕ) → fieldBits (a + b) n ≡ fieldBits a (n / 2 ^ b) ++ fieldBits b n
-field-split a zero n = rw (add-zero a) (split-none a n)
-field-split a (suc b) n = rw (add-suc a b) (split-more a b n (field-split a b (n / 2)))
-
-bit-one : (n : ℕ) → fieldBits 1 n ≡ n % 2 ∷ []
-unfolding fieldBits
-bit-one n = refl
-
--- the first bit apart
-pub field-first : (k n : ℕ) → fieldBits (suc k) n ≡ (n / 2 ^ k % 2) ∷ fieldBits k n
-field-first k n = rw (← one-add k) (field-split 1 k n ∙ rw (bit-one (n / 2 ^ k)))
+field-split a b n = simp field-numeral (numeral-split 2 0 a b n)
 
 -- ---- the number that bits are
 
-pub continued-append : (v : ℕ) (s t : List ℕ) → continuedBits v (s ++ t) ≡ continuedBits (continuedBits v s) t
-unfolding continuedBits
-continued-append v [] t = refl
-continued-append v (b ∷ s) t = continued-append (v * 2 + b) s t
-
-pub continued-value : (v : ℕ) (s : List ℕ) → continuedBits v s ≡ v * 2 ^ length s + bitsNumber s
-unfolding continuedBits
-continued-value v [] = omega arith
-continued-value v (b ∷ s) =
-    let p : ℕ = 2 ^ length s in
-    let zero-first : 0 * 2 + b ≡ b = omega arith in
-    let rest : continuedBits (0 * 2 + b) s ≡ b * p + bitsNumber s = continued-value (0 * 2 + b) s ∙ rw (zero-first) in
-    let shifted : v * 2 * p ≡ v * 2 ^ suc (length s) = mul-assoc v 2 p ∙ ap (λ (x : ℕ). v * x) (mul-comm 2 p ∙ sym (pow-suc 2 (length s))) in
-    omega (arith, continued-value (v * 2 + b) s, rest, shifted, add-mul (v * 2) b p)
-
 pub number-append : (s t : List ℕ) → bitsNumber (s ++ t) ≡ bitsNumber s * 2 ^ length t + bitsNumber t
-number-append s t = continued-append 0 s t ∙ continued-value (bitsNumber s) t
-
-first-number : (b : ℕ) (s : List ℕ) → bitsNumber (b ∷ s) ≡ b * 2 ^ length s + bitsNumber s
-unfolding continuedBits
-first-number b s = let e : 0 * 2 + b ≡ b = omega arith in ap (λ (v : ℕ). continuedBits v s) e ∙ continued-value b s
+number-append s t = simp bits-worth (worth-append 2 0 0 s t ∙ worth-value 2 0 (worth 2 0 0 s) t)
 
 pub number-below : (s : List ℕ) → AreBits s → bitsNumber s < 2 ^ length s
-unfolding continuedBits
-number-below [] h = omega arith
-number-below (b ∷ s) h =
-    let most : b * 2 ^ length s ≤ 1 * 2 ^ length s = mul-le-mul-right (2 ^ length s) (omega (arith, h .0)) in
-    omega (arith, first-number b s, number-below s (h .1), most, pow-suc 2 (length s))
-
-behind : (v : ℕ) (s : List ℕ) → AreBits s → fieldBits (length s) (continuedBits v s) ≡ s
-unfolding continuedBits fieldBits
-behind v [] h = refl
-behind v (b ∷ s) h =
-    let w : ℕ = v * 2 + b in
-    let high : continuedBits w s / 2 ^ length s ≡ w = ap (λ (x : ℕ). x / 2 ^ length s) (continued-value w s) ∙ digits-div w (number-below s (h .1)) in
-    let first : w % 2 ≡ b = omega (arith, h .0) in
-    field-first (length s) (continuedBits w s) ∙ rw (high, first, behind w s (h .1))
+number-below s h = rw (bits-worth 0 s) (worth-below 2 0 s h)
 
 -- bits are the field of their number
 pub field-number : (s : List ℕ) → AreBits s → fieldBits (length s) (bitsNumber s) ≡ s
-field-number s h = behind 0 s h
-
-number-last : (w n : ℕ) → bitsNumber (fieldBits (suc w) n) ≡ bitsNumber (fieldBits w (n / 2)) * 2 + n % 2
-unfolding fieldBits continuedBits
-number-last w n = continued-append 0 (fieldBits w (n / 2)) (n % 2 ∷ [])
+field-number s h = rw (bits-worth 0 s, field-numeral (length s) (worth 2 0 0 s)) (numeral-worth 2 0 0 s h)
 
 -- and the number of a field is the number, cut to its width
 pub number-cut : (w n : ℕ) → bitsNumber (fieldBits w n) ≡ n % 2 ^ w
-unfolding continuedBits fieldBits
-number-cut zero n = omega arith
-number-cut (suc w) n = number-last w n ∙ ap (λ (x : ℕ). x * 2 + n % 2) (number-cut w (n / 2)) ∙ sym (mod-pow-add n w 1) ∙ ap (λ (k : ℕ). n % 2 ^ k) (add-one w)
+number-cut w n = rw (field-numeral w n, bits-worth 0 (numeral 2 0 w n)) (worth-numeral 2 0 (omega arith) w n)
 
 pub number-field : (w n : ℕ) → n < 2 ^ w → bitsNumber (fieldBits w n) ≡ n
 number-field w n h = number-cut w n ∙ mod-eq-of-lt h
@@ -143,7 +84,7 @@ length-bits (b ∷ s) = omega (arith, length-append (fieldBits 8 b) (bitsOf s), 
 pub bits-are : (s : List ℕ) → AreBits (bitsOf s)
 unfolding bitsOf
 bits-are [] = omega arith
-bits-are (b ∷ s) = bits-append (fieldBits 8 b) (bitsOf s) (field-bits 8 b) (bits-are s)
+bits-are (b ∷ s) = every-append Bit (fieldBits 8 b) (bitsOf s) (field-bits 8 b) (bits-are s)
 
 pub bits-of-append : (s t : List ℕ) → bitsOf (s ++ t) ≡ bitsOf s ++ bitsOf t
 unfolding bitsOf
@@ -166,10 +107,6 @@ bits-of-take k s h =
     ∙ ap (take (8 * k)) (bits-of-append (take k s) (drop k s))
     ∙ take-at (bitsOf (take k s)) (bitsOf (drop k s)) (8 * k) (sym e)
 
-pub bytes-append : (s t : List ℕ) → AreBytes s → AreBytes t → AreBytes (s ++ t)
-bytes-append [] t h k = k
-bytes-append (b ∷ s) t h k = (h .0, bytes-append s t (h .1) k)
-
 -- bytes are the bytes of their bits
 pub bytes-back : (s : List ℕ) → AreBytes s → bytesOf (length s) (bitsOf s) ≡ s
 unfolding bytesOf bitsOf
@@ -191,16 +128,16 @@ bits-back zero [] h e = refl
 bits-back zero (b ∷ s) h e = absurd (omega arith)
 bits-back (suc k) s h e =
     let long : length (take 8 s) ≡ 8 = length-take-le 8 s (omega arith) in
-    let first : fieldBits 8 (bitsNumber (take 8 s)) ≡ take 8 s = ap (λ (w : ℕ). fieldBits w (bitsNumber (take 8 s))) (sym long) ∙ field-number (take 8 s) (bits-take 8 s h) in
-    rw (first, bits-back k (drop 8 s) (bits-drop 8 s h) (omega (arith, length-drop 8 s))) (take-append-drop 8 s)
+    let first : fieldBits 8 (bitsNumber (take 8 s)) ≡ take 8 s = ap (λ (w : ℕ). fieldBits w (bitsNumber (take 8 s))) (sym long) ∙ field-number (take 8 s) (every-take Bit 8 s h) in
+    rw (first, bits-back k (drop 8 s) (every-drop Bit 8 s h) (omega (arith, length-drop 8 s))) (take-append-drop 8 s)
 
 pub bytes-are : (k : ℕ) (s : List ℕ) → AreBits s → length s ≡ 8 * k → AreBytes (bytesOf k s)
 unfolding bytesOf
 bytes-are zero s h e = omega arith
 bytes-are (suc k) s h e =
     let long : length (take 8 s) ≡ 8 = length-take-le 8 s (omega arith) in
-    let n : bitsNumber (take 8 s) < 2 ^ length (take 8 s) = number-below (take 8 s) (bits-take 8 s h) in
-    (subst (λ (w : ℕ). bitsNumber (take 8 s) < 2 ^ w) long n, bytes-are k (drop 8 s) (bits-drop 8 s h) (omega (arith, length-drop 8 s)))
+    let n : bitsNumber (take 8 s) < 2 ^ length (take 8 s) = number-below (take 8 s) (every-take Bit 8 s h) in
+    (subst (λ (w : ℕ). bitsNumber (take 8 s) < 2 ^ w) long n, bytes-are k (drop 8 s) (every-drop Bit 8 s h) (omega (arith, length-drop 8 s)))
 
 -- ---- reading a field by whole bytes
 
@@ -273,9 +210,9 @@ field-read s at w i k t h e l =
     ∙ ap (λ (r : List ℕ). take p B ++ r) (take-add w t C) in
     let W : length (take w C) ≡ w = length-take-le w C (omega arith) in
     let Z : length (take t (drop w C)) ≡ t = length-take-le t (drop w C) (omega (arith, length-drop w C)) in
-    let bits : AreBits C = bits-drop p B (bits-are (drop i s)) in
+    let bits : AreBits C = every-drop Bit p B (bits-are (drop i s)) in
     let found : bitsNumber (take p B ++ (take w C ++ take t (drop w C))) / 2 ^ length (take t (drop w C)) % 2 ^ length (take w C) ≡ bitsNumber (take w C) =
-    middle (take p B) (take w C) (take t (drop w C)) (bits-take w C bits) (bits-take t (drop w C) (bits-drop w C bits)) in
+    middle (take p B) (take w C) (take t (drop w C)) (every-take Bit w C bits) (every-take Bit t (drop w C) (every-drop Bit w C bits)) in
     ap (λ (r : List ℕ). bitsNumber r / 2 ^ t % 2 ^ w) cut
     ∙ (rw (W, Z) at found)
     ∙ ap (λ (r : List ℕ). bitsNumber (take w r)) there
@@ -304,7 +241,7 @@ unfolding field
 field-below s at w h =
     let B : List ℕ = drop at (bitsOf s) in
     let size : length (take w B) ≡ w = length-take-le w B (omega (arith, length-drop at (bitsOf s), length-bits s)) in
-    subst (λ (n : ℕ). bitsNumber (take w B) < 2 ^ n) size (number-below (take w B) (bits-take w B (bits-drop at (bitsOf s) (bits-are s))))
+    subst (λ (n : ℕ). bitsNumber (take w B) < 2 ^ n) size (number-below (take w B) (every-take Bit w B (every-drop Bit at (bitsOf s) (bits-are s))))
 
 -- and the bits from a place on begin with those of its number
 pub field-at : (s : List ℕ) (at w : ℕ) → at + w ≤ 8 * length s → drop at (bitsOf s) ≡ fieldBits w (field s at w) ++ drop (at + w) (bitsOf s)
@@ -312,7 +249,7 @@ unfolding field
 field-at s at w h =
     let B : List ℕ = drop at (bitsOf s) in
     let size : length (take w B) ≡ w = length-take-le w B (omega (arith, length-drop at (bitsOf s), length-bits s)) in
-    let first : fieldBits w (bitsNumber (take w B)) ≡ take w B = ap (λ (n : ℕ). fieldBits n (bitsNumber (take w B))) (sym size) ∙ field-number (take w B) (bits-take w B (bits-drop at (bitsOf s) (bits-are s))) in
+    let first : fieldBits w (bitsNumber (take w B)) ≡ take w B = ap (λ (n : ℕ). fieldBits n (bitsNumber (take w B))) (sym size) ∙ field-number (take w B) (every-take Bit w B (every-drop Bit at (bitsOf s) (bits-are s))) in
     sym (take-append-drop w B) ∙ rw (first) (ap (λ (t : List ℕ). take w B ++ t) (drop-drop w at (bitsOf s)))
 
 -- a number that was put at a place is read there
@@ -323,8 +260,3 @@ field-found s at w x before behind e l h =
     ap (λ (t : List ℕ). bitsNumber (take w t)) there
     ∙ ap bitsNumber (take-at (fieldBits w x) behind w (length-field w x))
     ∙ number-field w x h
-
--- ---- the machine's form
-
-pub shifted-one : (p : ℕ) → p < 64 → 1 * 2 ^ p % 18446744073709551616 ≡ 2 ^ p
-shifted-one p h = rw (one-mul (2 ^ p)) (mod-eq-of-lt {m = 18446744073709551616} (pow-lt {j = 64} h))

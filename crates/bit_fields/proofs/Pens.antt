@@ -9,11 +9,12 @@ use native.Mathlib.Omega.{arith}
 use lib.Pow.{pow-add, pow-pos, pow-mono, shr-lt}
 use lib.Arith.{digits-lt, digits-div, digits-mod}
 use lib.ListN.{length, take, drop, set, length-set, take-append-drop}
-use lib.Seq.{take-suc-set, drop-set-lt, drop-drop, length-take-le}
+use lib.Seq.{take-suc-set, drop-set-lt, length-take-le}
+use Rattle.paper.proofs.Lists.{tails-agree, every-append}
 use Rattle.bit_fields.specs.Bits.{inBits, fieldBits, bitsOf, bytesOf, AreBytes}
 use Rattle.bit_fields.specs.Pens.{Held, putSoFar, Drew}
 use Rattle.bit_fields.specs.declared.Pen.{Pen}
-use Rattle.bit_fields.proofs.Bits.{length-field, one-field, field-split, field-cut, bits-of-append, one-byte, bytes-append, bytes-back, length-bytes}
+use Rattle.bit_fields.proofs.Bits.{length-field, one-field, field-split, field-cut, bits-of-append, one-byte, bytes-back, length-bytes}
 use Rattle.text.specs.Writing.{put}
 
 -- what has gone out since the place, the count and the bits of the start
@@ -52,15 +53,12 @@ module _ {out₀ : List ℕ} {place₀ count₀ bits₀ : ℕ} {out : List ℕ} 
 
   next-past : (v : ℕ) → drop (place + 1) (set out place v) ≡ drop (place + 1) out₀
   next-past v =
-      drop-set-lt (place + 1) out place v (omega arith)
-      ∙ sym (drop-drop 1 place out)
-      ∙ ap (drop 1) (f .past)
-      ∙ drop-drop 1 place out₀
+      drop-set-lt (place + 1) out place v (omega arith) ∙ tails-agree out out₀ place (place + 1) (omega arith) (f .past)
 
   next-bytes : (v : ℕ) → v ≡ bits / 2 ^ (count - 8) → AreBytes (take place out) → AreBytes (take (place + 1) (set out place v))
   next-bytes v e a =
       let longer : take (place + 1) (set out place v) ≡ take place out ++ (v ∷ []) = ap (λ (k : ℕ). take k (set out place v)) (add-one place) ∙ take-suc-set out place v flushed-place in
-      rw (longer) (bytes-append (take place out) (v ∷ []) a (rw (e) flushed-byte, omega arith))
+      rw (longer) (every-append (λ b. b < 256) (take place out) (v ∷ []) a (rw (e) flushed-byte, omega arith))
 
   pub flushed-more : (v b : ℕ) → v ≡ bits / 2 ^ (count - 8) → b ≡ bits % 2 ^ (count - 8) → Flushed out₀ place₀ count₀ bits₀ (set out place v) (place + 1) (count - 8) b
   flushed-more v b p q = record {

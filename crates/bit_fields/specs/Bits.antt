@@ -3,6 +3,7 @@
 use Prim.Native.Nat.{ℕ, zero, suc, _+_, _*_, _/_, _%_, _<_}
 use mathlib.Core.List.{List, [], _∷_, _++_}
 use lib.ListN.{take, drop}
+use Rattle.paper.specs.Lists.{Every}
 
 -- the last w bits of n
 unfoldable pub fieldBits : ℕ → ℕ → List ℕ
@@ -51,5 +52,4 @@ bytesOf (suc k) s = bitsNumber (take 8 s) ∷ bytesOf k (drop 8 s)
 
 -- every one is a byte
 abbrev pub AreBytes : List ℕ → Type 0
-AreBytes [] = 0 < 1
-AreBytes (b ∷ s) = (b < 256) × AreBytes s
+AreBytes s = Every (λ b. b < 256) s

@@ -1,8 +1,8 @@
 -- The bound of an amount, for coupons and for accrued interest: denomination x rate / 100 x fraction as f64 beside the same over fractions.
 -- Assumes nothing.
-use Prim.Native.Nat.{ℕ, _*_, _^_, _≤_, _<_}
+use Prim.Native.Nat.{ℕ, _*_, _^_, _≤_}
 use mathlib.Core.Path.{_≡_, refl, sym, _∙_, ap, subst}
-use mathlib.Core.Bool.{true, false}
+use mathlib.Core.Bool.{true, false, false≢true}
 use native.Mathlib.Omega.{arith}
 use native.Mathlib.Nat.{one-mul}
 use lib.Dec.{T, lit<, lit≤}
@@ -25,10 +25,10 @@ use Rattle.bond.specs.declared.Note.{Note}
 -- a rate is exactly the fraction that it means, at most 100
 pub rate-near : (x : Float) → T (fits binary64 x) → isRate x ≡ true → Near x (plus (numerator x)) (minus (numerator x)) (denominator x) 100 0
 unfolding isRate
-rate-near nan f h = absurd (let z : _≡_ {A = ℕ} 0 1 = cc in omega arith)
-rate-near (inf true) f h = absurd (let z : _≡_ {A = ℕ} 0 1 = cc in omega arith)
-rate-near (inf false) f h = absurd (let z : _≡_ {A = ℕ} 0 1 = cc in omega arith)
-rate-near (fin true m e) f h = absurd (let z : _≡_ {A = ℕ} 0 1 = cc in omega arith)
+rate-near nan f h = absurd (false≢true h)
+rate-near (inf true) f h = absurd (false≢true h)
+rate-near (inf false) f h = absurd (false≢true h)
+rate-near (fin true m e) f h = absurd (false≢true h)
 rate-near (fin false m e) f h = near-own (fin false m e) 100 f tt (omega (arith, leb-true (m * up e) (100 * down e) h))
 
 -- an amount is at most 1,000,000 x 10150, and within 1,750,000 / 2^38 of the exact one, which is less than 1 / 157,000

@@ -13,11 +13,10 @@ use Rattle.paper.proofs.Outcomes.{given-injective, unless-given, then-given, bo
 use Rattle.gregorian.specs.Gregorian.{monthLength}
 use Rattle.calendar.specs.Dates.{isDate, dayNumber}
 use Rattle.calendar.specs.declared.Date.{Date}
-use Rattle.calendar.proofs.Dates.{date-yes, date-is}
+use Rattle.calendar.proofs.Dates.{date-yes}
 use Rattle.calendar.proofs.Order.{month-order}
 use Rattle.date_step.specs.Steps.{existingDate}
-use Rattle.time_period.specs.Steps.{absent, stepped, needsTable}
-use Rattle.time_period.proofs.Steps.{step-leads}
+use Rattle.time_period.specs.Steps.{needsTable}
 use Rattle.day_count_conv.proofs.Numbers.{above-one}
 use Rattle.coupon_date.specs.Coupons.{couponDate}
 use Rattle.coupon_date.specs.declared.CouponDate.{CouponDate}
@@ -109,7 +108,3 @@ first-end-later n t d e = by (ltb (n .«issue_date» .month) (n .«coupon_date»
         let h = date-yes (n .«issue_date») d in
         let k = date-yes t (s .0) in
         (s .0, month-order (n .«issue_date») t h k (omega (arith, s .1, h .month-to, h .month-from, h .year-from)))
-
--- and each next one ends later
-pub next-end-later : (n : Note) (t u : Date) → Accepted n → isDate t ≡ true → stepped (n .period) absent t ≡ given u → (isDate u ≡ true) × (dayNumber t < dayNumber u)
-next-end-later n t u a d e = let s = step-leads (n .period) absent t u d e in (date-is u (s .dated), s .later (a .period))

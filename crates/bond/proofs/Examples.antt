@@ -23,9 +23,7 @@ use Rattle.note_limits.specs.Limits.{isNoteNumber, isRate}
 use Rattle.bond.specs.Notes.{isPosition, periodChecks, termChecks, noteChecks, inYearOf, firstCouponEnd}
 use Rattle.note_limits.specs.declared.NoteNumber.{NoteNumber}
 use Rattle.bond.specs.declared.Note.{Note}
-
-abbrev pub on : ℕ → ℕ → ℕ → Date
-on y m d = record { year = y; month = m; day = d }
+use Rattle.calendar.proofs.Examples.{on}
 
 abbrev pub every : ℤ → TimePeriodUnit → TimePeriod
 every n u = record { num = n; unit = u }

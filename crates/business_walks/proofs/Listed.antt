@@ -2,7 +2,7 @@
 -- Assumes nothing.
 use Prim.Native.Nat.{ℕ, zero, suc, _≤_, _<_}
 use mathlib.Core.Path.{_≡_, refl, sym, _∙_}
-use mathlib.Core.Bool.{Bool, true, false, _||_}
+use mathlib.Core.Bool.{true, false, or-true}
 use mathlib.Core.List.{List, [], _∷_}
 use native.Mathlib.Omega.{arith}
 use lib.ListN.{length, getD, take, drop}
@@ -16,10 +16,6 @@ unfolding listed
 listed-at [] k h = absurd (omega arith)
 listed-at (d ∷ ds) zero h = simp (eq-eqb d d refl)
 listed-at (d ∷ ds) (suc k) h = rw (listed-at ds k (omega arith)) (or-true (eqb (getD ds k 0) d))
-  where
-    or-true : (b : Bool) → (b || true) ≡ true
-    or-true true = refl
-    or-true false = refl
 
 listed-past : (x d : ℕ) (ds : List ℕ) → (d ≡ x → ⊥) → listed x (d ∷ ds) ≡ listed x ds
 unfolding listed

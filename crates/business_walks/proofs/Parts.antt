@@ -5,8 +5,7 @@ use mathlib.Core.Path.{_≡_, refl, ap₂}
 use mathlib.Core.Bool.{Bool}
 use mathlib.Core.List.{List}
 use native.Mathlib.Omega.{arith}
-use lib.ListN.{length, take, drop, length-drop}
-use lib.Seq.{take-all}
+use lib.ListN.{take, drop}
 use Rattle.paper.specs.Outcome.{Outcome}
 use Rattle.calendar.specs.declared.Day.{Day}
 use Rattle.holidays.specs.Table.{listed}
@@ -73,7 +72,3 @@ module _ (t : List ℕ) (n i : ℕ) (s : Splits t n i) where
 
   pub earlier-part : (k : ℕ) → earlierFrom (take i t) k n ≡ earlierFrom t k n
   earlier-part = same-earlier (take i t) t n before-lists
-
--- a part lent up to the end is all from its start on
-pub rest-of : (t : List ℕ) (i : ℕ) → take (length t - i) (drop i t) ≡ drop i t
-rest-of t i = take-all (length t - i) (drop i t) (omega (arith, length-drop i t))

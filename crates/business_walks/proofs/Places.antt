@@ -13,6 +13,14 @@ use Rattle.holidays.specs.Search.{Splits}
 use Rattle.holidays.proofs.Places.{Bracket, bracket-whole, bracket-up}
 use Rattle.business_walks.proofs.Listed.{listed-at, unlisted}
 
+-- past the end stands a 0, which is no day
+pub placed : (t : List ℕ) (n i : ℕ) → 1 ≤ n → n ≡ getD t i 0 → i < length t
+placed t n i d e = by (decLt i (length t))
+  where
+    by : Dec (i < length t) → i < length t
+    by (yes g) = g
+    by (no g) = absurd (omega (arith, List·getD-eq-default t 0 {n = i} (omega arith)))
+
 module _ {t : List ℕ} {n i : ℕ} (s : Splits t n i) where
   -- the part from the place on, and the part up to it
   pub part-after : Splits (drop i t) n 0
@@ -43,20 +51,13 @@ module _ {t : List ℕ} {n i : ℕ} (s : Splits t n i) where
 
   -- forwards: the day is the holiday at the place
   module _ (d : 1 ≤ n) (e : n ≡ getD t i 0) where
-    pub there : i < length t
-    there = by (decLt i (length t))
-      where
-        by : Dec (i < length t) → i < length t
-        by (yes g) = g
-        by (no g) = absurd (omega (arith, List·getD-eq-default t 0 {n = i} (omega arith)))
-
     pub met : listed n t ≡ true
-    met = subst (λ (x : ℕ). listed x t ≡ true) (sym e) (listed-at t i there)
+    met = subst (λ (x : ℕ). listed x t ≡ true) (sym e) (listed-at t i (placed t n i d e))
 
     pub met-on : Splits t (n + 1) (i + 1)
     met-on = record {
       sorted = s .sorted;
-      within = omega (arith, there);
+      within = omega (arith, placed t n i d e);
       before = λ k l. by k l (decLt k i);
       after = λ k l h. omega (arith, s .sorted i k (omega arith) h);
     }
@@ -133,40 +134,3 @@ bracket-near t n zero a w h = bracket-whole t n a
 bracket-near t n (suc i) a w h =
     let e : i + 1 ≡ suc i = omega arith in
     rw e at (bracket-up (bracket-whole t n a) i zero-le (omega arith) h)
-
--- past the end stands a 0, which is no day
-pub placed : (t : List ℕ) (n i : ℕ) → 1 ≤ n → getD t i 0 ≡ n → i < length t
-placed t n i d e = by (decLt i (length t))
-  where
-    by : Dec (i < length t) → i < length t
-    by (yes l) = l
-    by (no l) = absurd (omega (arith, List·getD-eq-default t 0 {n = i} (omega arith)))
-
--- from the first holiday that is not before a day to the first after it
-module _ {t : List ℕ} {n i : ℕ} (s : Splits t n i) where
-  pub after-listed : i < length t → getD t i 0 ≡ n → Splits t (n + 1) (i + 1)
-  after-listed l e = record {
-    sorted = s .sorted;
-    within = omega arith;
-    before = λ k f. by k f (decLt k i);
-    after = λ k f g. omega (arith, s .sorted i k (omega arith) g);
-  }
-    where
-      by : (k : ℕ) → k < i + 1 → Dec (k < i) → getD t k 0 < n + 1
-      by k f (yes h) = omega (arith, s .before k h)
-      by k f (no h) = let q : k ≡ i = omega arith in rw q (omega arith)
-
-  pub after-unlisted : (getD t i 0 ≡ n → ⊥) → Splits t (n + 1) i
-  after-unlisted d = record {
-    sorted = s .sorted;
-    within = s .within;
-    before = λ k f. omega (arith, s .before k f);
-    after = λ k f g. by k f g (decLt i k);
-  }
-    where
-      by : (k : ℕ) → i ≤ k → k < length t → Dec (i < k) → n + 1 ≤ getD t k 0
-      by k f g (yes h) = omega (arith, s .sorted i k h g, s .after i (omega arith) (omega arith))
-      by k f g (no h) = let q : k ≡ i = omega arith in rw q (let m = s .after i (omega arith) (omega arith) in above (getD t i 0) m d)
-        where
-          above : (x : ℕ) → n ≤ x → (x ≡ n → ⊥) → n + 1 ≤ x
-          above x a b = omega arith

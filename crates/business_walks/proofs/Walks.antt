@@ -11,7 +11,7 @@ use borrow.Author.Tests.{eqb-true, eqb-false}
 use Rattle.paper.specs.Outcome.{given, refused}
 use Rattle.holidays.specs.Business.{on, isWeekend, isBusiness, nextFrom, prevFrom, laterFrom, earlierFrom}
 use Rattle.holidays.specs.Search.{Splits}
-use Rattle.business_walks.proofs.Places.{there, met, met-on, past-on, met-back, past-back, skipped}
+use Rattle.business_walks.proofs.Places.{placed, met, met-on, past-on, met-back, past-back, skipped}
 use Rattle.holidays.proofs.Steps.{no-step, step-refused, step-passed, step-taken}
 use Rattle.holidays.proofs.Days.{shut-weekend, shut-listed, business-is, next-none, next-here, next-on, prev-none, prev-here, prev-on}
 
@@ -42,7 +42,7 @@ module _ {t : List ℕ} {k n day left i h : ℕ} (w : Onward t k n day left i h)
       here = e ∙ w .holiday
 
       pub onward-inside : i < length t
-      onward-inside = there (w .place) (omega arith) here
+      onward-inside = placed t (day + 1) i (omega arith) here
 
       pub onward-holiday : (h′ : ℕ) → h′ ≡ getD t (i + 1) 0 → Onward t k n (day + 1) left (i + 1) h′
       onward-holiday h′ f = record {

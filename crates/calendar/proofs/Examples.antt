@@ -12,7 +12,7 @@ use Rattle.calendar.specs.declared.Day.{Day}
 use Rattle.calendar.proofs.Dates.{number-by-rule}
 use Rattle.calendar.proofs.Inverse.{date-at}
 
-abbrev on : ℕ → ℕ → ℕ → Date
+abbrev pub on : ℕ → ℕ → ℕ → Date
 on y m d = record { year = y; month = m; day = d }
 
 abbrev day : ℕ → Day

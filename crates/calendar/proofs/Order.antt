@@ -85,6 +85,13 @@ days-before t u h k l = by (isBefore t u) refl
     by true e = e
     by false e = absurd (omega (arith, not-before t u h k e))
 
+pub days-not-before : (t u : Date) → IsDate t → IsDate u → dayNumber u ≤ dayNumber t → isBefore t u ≡ false
+days-not-before t u h k l = by (isBefore t u) refl
+  where
+    by : (b : Bool) → isBefore t u ≡ b → isBefore t u ≡ false
+    by true e = absurd (omega (arith, before-days t u h k e))
+    by false e = e
+
 -- two dates of one serial day are one date
 pub same-day : (t u : Date) → IsDate t → IsDate u → dayNumber t ≡ dayNumber u → t ≡ u
 same-day t u h k e = sym (date-found t h) ∙ ap theDate e ∙ date-found u k

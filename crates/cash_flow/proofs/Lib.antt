@@ -1,3 +1,4 @@
+pub mod NoFlow
 pub mod Signs
 pub mod OneOutcome
 pub mod Examples

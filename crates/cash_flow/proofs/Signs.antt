@@ -1,26 +1,23 @@
 -- A number below zero and its sign dropped: what the code's test leaves to compare. Assumes nothing.
 use Prim.Native.Nat.{ℕ, zero, suc, _+_, _*_, _≤_, _<_}
 use mathlib.Core.Path.{_≡_, refl, sym, ap, _∙_}
-use mathlib.Core.Bool.{Bool, true, false, _||_}
+use mathlib.Core.Bool.{Bool, true, false, _||_, false≢true}
 use native.Mathlib.Nat.{mul-pos, zero-mul, zero-add}
 use native.Mathlib.Omega.{arith}
-use lib.IntN.{ℤ, pos, negsuc}
-use lib.Pow.{pow-pos}
+use lib.IntN.{ℤ}
 use lib.Ieee.{Float, nan, inf, fin, binary64, up, down, below, level, neg, lt, eq, le, ofBits}
+use lib.Ieee.Fits.{up-pos}
 use borrow.Author.Tests.{ltb-false, le-ltb}
 use Rattle.cash_flow.specs.Flows.{absolute, isWithin}
-
-never : _≡_ {A = Bool} false true → ⊥
-never e = let z : _≡_ {A = ℕ} 0 1 = cc in omega arith
 
 -- a number below zero, negated, has its sign dropped
 pub below-zero : (d tol : Float) → lt d (ofBits binary64 0) ≡ true → le (neg d) tol ≡ isWithin d tol
 unfolding isWithin absolute lt neg ofBits
-below-zero nan tol h = absurd (never h)
+below-zero nan tol h = absurd (false≢true h)
 below-zero (inf true) tol h = refl
-below-zero (inf false) tol h = absurd (never h)
+below-zero (inf false) tol h = absurd (false≢true h)
 below-zero (fin true m e) tol h = refl
-below-zero (fin false m e) tol h = absurd (never (sym (le-ltb (m * up e * 1) (0 * down e) (omega (arith, zero-mul (down e)))) ∙ h))
+below-zero (fin false m e) tol h = absurd (false≢true (sym (le-ltb (m * up e * 1) (0 * down e) (omega (arith, zero-mul (down e)))) ∙ h))
 
 -- a zero has no sign that a comparison sees
 zero-level : (t : Bool) (n : ℕ) → (below true 0 t n || level true 0 t n) ≡ (below false 0 t n || level false 0 t n)
@@ -37,20 +34,16 @@ zero-sign e (fin t n x) =
     ∙ zero-level t (n * up x * down e)
     ∙ ap (λ (a : ℕ). below false a t (n * up x * down e) || level false a t (n * up x * down e)) (sym z)
 
-up-some : (e : ℤ) → 0 < up e
-up-some (pos k) = pow-pos k
-up-some (negsuc k) = omega arith
-
 no-digits : (m : ℕ) (e : ℤ) → m * up e ≤ 0 → m ≡ 0
 no-digits zero e h = refl
 no-digits (suc m) e h =
-    let z : 0 < suc m * up e = mul-pos (omega arith) (up-some e) in
+    let z : 0 < suc m * up e = mul-pos (omega arith) (up-pos e) in
     absurd (omega arith)
 
 pub not-below : (d tol : Float) → lt d (ofBits binary64 0) ≡ false → le d tol ≡ isWithin d tol
 unfolding isWithin absolute lt ofBits
 not-below nan tol h = refl
-not-below (inf true) tol h = absurd (never (sym h))
+not-below (inf true) tol h = absurd (false≢true (sym h))
 not-below (inf false) tol h = refl
 not-below (fin false m e) tol h = refl
 not-below (fin true m e) tol h =

@@ -18,9 +18,7 @@ use Rattle.decimal.specs.Decimal.{tenThousandths, fourDecimals, decimalText16}
 use Rattle.date_text.specs.DateTexts.{dateText, dateShown, shownBytes}
 use Rattle.amount_text.specs.AmountTexts.{amountText, amountShown}
 use Rattle.cash_flow_text.specs.Texts.{flowText, flowShown}
-
-abbrev on : ℕ → ℕ → ℕ → Date
-on y m d = record { year = y; month = m; day = d }
+use Rattle.calendar.proofs.Examples.{on}
 
 -- EUR, and a malformed one: EUr
 abbrev eur : Currency

@@ -7,7 +7,7 @@ use Rattle.gregorian.specs.Gregorian.{leap, lengthIn, monthLength}
 use Rattle.coupon_date.specs.Coupons.{couponDate}
 use Rattle.coupon_date.specs.declared.CouponDate.{CouponDate}
 
-abbrev on : ℕ → ℕ → CouponDate
+abbrev pub on : ℕ → ℕ → CouponDate
 on d m = record { day = d; month = m }
 
 -- the pairs at the edges: 29.02, and 256 and 257, which are 0 and 1 in eight bits

@@ -1,6 +1,5 @@
 -- Texts of coupon dates that the paper and the lists of slips name, as theorems about the definitions.
 -- Assumes nothing.
-use Prim.Native.Nat.{ℕ}
 use mathlib.Core.Path.{_≡_, refl}
 use mathlib.Core.List.{[], _∷_}
 use Rattle.paper.specs.Outcome.{given, refused}
@@ -9,10 +8,7 @@ use Rattle.text.specs.Writing.{digits, placesWithin, places, paddedText}
 use Rattle.gregorian.specs.Gregorian.{leap, lengthIn, monthLength}
 use Rattle.coupon_text.specs.CouponTexts.{isBlank, trimStart, before, trimEnd, trimmed, hasDot, upToDot, afterDot, monthPart, dayPart, couponText, couponDateText}
 use Rattle.coupon_date.specs.Coupons.{couponDate}
-use Rattle.coupon_date.specs.declared.CouponDate.{CouponDate}
-
-abbrev on : ℕ → ℕ → CouponDate
-on d m = record { day = d; month = m }
+use Rattle.coupon_date.proofs.Examples.{on}
 
 -- `15.07`, ` +5.+6.zz ` (later parts ignored), `15` (no dot), `-0.5`, `5 .6`
 pub record Texts : Type 0 where

@@ -3,29 +3,25 @@
 use Prim.Native.Nat.{ℕ, zero, suc, _+_, _-_, _≤_, _<_}
 use mathlib.Core.Path.{_≡_, refl, sym, _∙_, ap}
 use mathlib.Core.Bool.{true, false}
-use mathlib.Core.List.{List, [], _∷_, _++_, append-assoc}
+use mathlib.Core.List.{List, [], _∷_, _++_, append-assoc, append-nil}
 use native.Mathlib.Omega.{arith}
 use native.Mathlib.Numerals.{add-one}
 use lib.Dec.{eqb}
-use lib.ListN.{length, take, drop, getD, drop-of-length-le, length-drop}
-use lib.Seq.{take-suc, take-all}
+use lib.ListN.{length, take, drop, getD, drop-of-length-le}
+use lib.Seq.{take-suc}
 use borrow.Author.Tests.{eq-eqb, ne-eqb}
-use Rattle.reading.proofs.Decimals.{byte-first}
+use Rattle.paper.proofs.Lists.{head-at}
 use Rattle.coupon_text.specs.CouponTexts.{isBlank, trimStart, before, trimEnd, hasDot, upToDot, afterDot, DotAt}
-
--- a part up to the end of the text, and one up to a place
-pub part-from : (s : List ℕ) (i : ℕ) → take (length s - i) (drop i s) ≡ drop i s
-part-from s i = take-all (length s - i) (drop i s) (omega (arith, length-drop i s))
 
 -- leading blanks: at place i they are still to be trimmed
 module _ (s : List ℕ) (i : ℕ) where
   pub start-more : (z : List ℕ) → trimStart (drop i s) ≡ z → i < length s → isBlank (getD s i 0) ≡ true → trimStart (drop (i + 1) s) ≡ z
   unfolding trimStart
-  start-more z e h b = sym (ap trimStart (byte-first s i h) ∙ rw b) ∙ e
+  start-more z e h b = sym (ap trimStart (head-at s i 0 h) ∙ rw b) ∙ e
 
   pub start-here : (z : List ℕ) → trimStart (drop i s) ≡ z → i < length s → isBlank (getD s i 0) ≡ false → drop i s ≡ z
   unfolding trimStart
-  start-here z e h b = byte-first s i h ∙ sym (ap trimStart (byte-first s i h) ∙ rw b) ∙ e
+  start-here z e h b = head-at s i 0 h ∙ sym (ap trimStart (head-at s i 0 h) ∙ rw b) ∙ e
 
   pub start-end : (z : List ℕ) → trimStart (drop i s) ≡ z → length s ≤ i → drop i s ≡ z
   unfolding trimStart
@@ -76,7 +72,7 @@ pub no-dot-more : (s : List ℕ) (i : ℕ) → NoDot s i → i < length s → (g
 unfolding upToDot hasDot afterDot
 no-dot-more s i n h d =
     let c : eqb (getD s i 0) 46 ≡ false = ne-eqb _ _ d in
-    let b = byte-first s i h in
+    let b = head-at s i 0 h in
     let t : take (i + 1) s ≡ take i s ++ (getD s i 0 ∷ []) = ap (λ (k : ℕ). take k s) (add-one i) ∙ take-suc s i 0 h in
     record {
       within = omega arith;
@@ -85,18 +81,14 @@ no-dot-more s i n h d =
       after = n .after ∙ ap afterDot b ∙ rw c;
     }
 
-append-none : (s : List ℕ) → s ++ [] ≡ s
-append-none [] = refl
-append-none (b ∷ s) = ap (λ (r : List ℕ). b ∷ r) (append-none s)
-
 pub dot-here : (s : List ℕ) (i : ℕ) → NoDot s i → i < length s → getD s i 0 ≡ 46 → DotAt s i
 unfolding upToDot hasDot afterDot
 dot-here s i n h d =
     let c : eqb (getD s i 0) 46 ≡ true = eq-eqb _ _ d in
-    let b = byte-first s i h in
+    let b = head-at s i 0 h in
     record {
       within = n .within;
-      first = sym (n .first ∙ ap (λ (r : List ℕ). take i s ++ upToDot r) b ∙ rw c (append-none (take i s)));
+      first = sym (n .first ∙ ap (λ (r : List ℕ). take i s ++ upToDot r) b ∙ rw c (append-nil (take i s)));
       there = λ l. (n .has ∙ ap hasDot b ∙ rw c, sym (n .after ∙ ap afterDot b ∙ rw c));
       none = λ l. absurd (omega arith);
     }
@@ -107,7 +99,7 @@ dot-nowhere s i n h =
     let b = drop-of-length-le s h in
     record {
       within = n .within;
-      first = sym (n .first ∙ ap (λ (r : List ℕ). take i s ++ upToDot r) b ∙ append-none (take i s));
+      first = sym (n .first ∙ ap (λ (r : List ℕ). take i s ++ upToDot r) b ∙ append-nil (take i s));
       there = λ l. absurd (omega arith);
       none = λ l. n .has ∙ ap hasDot b;
     }

@@ -11,9 +11,7 @@ use Rattle.calendar.specs.declared.Date.{Date}
 use Rattle.calendar.proofs.Examples.{first-number, last-number}
 use Rattle.calendar.proofs.Inverse.{date-at}
 use Rattle.date_step.specs.Steps.{landing, monthsLater, addMonths, existingDate, yearsLater, addYears, daysLater, addDays}
-
-abbrev on : ℕ → ℕ → ℕ → Date
-on y m d = record { year = y; month = m; day = d }
+use Rattle.calendar.proofs.Examples.{on}
 
 -- each of the desk card's by its letter; and -15M
 pub record Card : Type 0 where

@@ -2,15 +2,16 @@
 -- Assumes nothing.
 use Prim.Native.Nat.{ℕ, suc, _+_, _-_, _^_, _≤_, _<_}
 use mathlib.Core.Path.{_≡_, refl, sym, _∙_, ap, ap₂, subst}
-use mathlib.Core.Bool.{Bool, true, false, cond}
+use mathlib.Core.Bool.{Bool, true, false, cond, false≢true}
 use native.Mathlib.Omega.{arith}
 use lib.Dec.{T, leb, ltb}
 use lib.IntN.{ℤ, pos, negsuc, _+ℤ_, natAbs}
 use lib.Signed.{mag, ltZ, nonNeg}
 use mir.Syntax.{w32, w64}
 use mir.Val.{SFits, toZ, ofZ}
-use mir.Facts.{toZ-ofZ, toZ-pos, sfits-widen}
+use mir.Facts.{toZ-ofZ, toZ-pos}
 use borrow.Author.Tests.{ltb-true, ltb-false, le-leb, lt-leb, leb-true, lt-ltb, le-ltb}
+use Rattle.paper.proofs.Numbers.{widened}
 use Rattle.paper.specs.Outcome.{given, refused}
 use Rattle.paper.proofs.Outcomes.{given-injective, given-not-refused, unless-given}
 use Rattle.date_step.specs.Steps.{landing}
@@ -33,7 +34,7 @@ module _ (last : ℕ) where
   pub beyond : (z : ℤ) → ltZ (pos last) z ≡ true → refused 1 ≡ landing last z
   unfolding landing
   beyond (pos k) e = rw (lt-leb k last (ltb-true last k e))
-  beyond (negsuc k) e = let x : _≡_ {A = ℕ} 0 1 = cc e in absurd (omega arith)
+  beyond (negsuc k) e = absurd (false≢true e)
 
   pub lands : (z : ℤ) → T (nonNeg z) → ltZ (pos last) z ≡ false → given (natAbs z) ≡ landing last z
   unfolding landing
@@ -58,13 +59,13 @@ module _ (last : ℕ) where
   module _ (a most : ℕ) (ha : a ≤ most) (hl : last ≤ most) where
     pub far-back : (n : ℤ) → ltZ n (negsuc (most - 1)) ≡ true → refused 1 ≡ landing last (pos a +ℤ n)
     unfolding landing
-    far-back (pos k) e = let x : _≡_ {A = ℕ} 0 1 = cc e in absurd (omega arith)
+    far-back (pos k) e = absurd (false≢true e)
     far-back (negsuc k) e = let l : most - 1 < k = ltb-true (most - 1) k e in rw (sum-below a k (omega arith))
 
     pub far-on : (n : ℤ) → ltZ (pos most) n ≡ true → refused 1 ≡ landing last (pos a +ℤ n)
     unfolding landing
     far-on (pos k) e = let l : most < k = ltb-true most k e in rw (lt-leb (a + k) last (omega arith))
-    far-on (negsuc k) e = let x : _≡_ {A = ℕ} 0 1 = cc e in absurd (omega arith)
+    far-on (negsuc k) e = absurd (false≢true e)
 
 -- any other move is short
 pub near : (n : ℤ) → ltZ n (negsuc 3652058) ≡ false → ltZ (pos 3652059) n ≡ false → mag n < 17179869184
@@ -80,17 +81,7 @@ sum-fits a (negsuc k) h m = record { sfits = either (ltb a (suc k)) (suc k - suc
     either true x y z h l = h
     either false x y z h l = l
 
-pub not-below : (z : ℤ) → ltZ z (pos 0) ≡ false → T (nonNeg z)
-not-below (pos k) e = tt
-not-below (negsuc k) e = let x : _≡_ {A = ℕ} 0 1 = cc e in absurd (omega arith)
-
--- a 32-bit number, widened
-pub widened : (n : ℤ) → SFits w32 n → toZ w64 (ofZ w64 (toZ w32 (ofZ w32 n))) ≡ n
-widened n f = ap (λ (z : ℤ). toZ w64 (ofZ w64 z)) (toZ-ofZ f) ∙ toZ-ofZ (sfits-widen tt f)
-
-pub wide-fits : (n : ℤ) → SFits w32 n → SFits w64 (toZ w32 (ofZ w32 n))
-wide-fits n f = subst (SFits w64) (sym (toZ-ofZ f)) (sfits-widen tt f)
-
+-- a 32-bit number, widened, is a short move
 pub wide-short : (n : ℤ) → SFits w32 n → mag (toZ w64 (ofZ w64 (toZ w32 (ofZ w32 n)))) < 17179869184
 wide-short n f = rw (widened n f) (omega (arith, f .sfits))
 

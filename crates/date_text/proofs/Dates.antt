@@ -1,5 +1,5 @@
 -- The text of a date: how long it is, and which answers the tests leave. Assumes nothing.
-use Prim.Native.Nat.{ℕ, _+_, _≤_, _<_, _^_, max}
+use Prim.Native.Nat.{ℕ, _≤_, _<_, _^_, max}
 use mathlib.Core.Path.{_≡_, refl, ap, _∙_}
 use mathlib.Core.Bool.{true, false}
 use mathlib.Core.List.{List, _∷_, _++_}

@@ -17,9 +17,7 @@ use Rattle.holidays.specs.Business.{isWeekend, isBusiness, firstOf, nextFrom, l
 use Rattle.day_adjust.specs.Adjustment.{nextDate, prevDate, modifiedDate, movedDate, adjusted, adjustDate}
 use Rattle.day_adjust.specs.declared.DayAdjust.{DayAdjust}
 use Rattle.day_adjust.specs.declared.DayAdjust.the-variants as rule
-
-abbrev on : ℕ → ℕ → ℕ → Date
-on y m d = record { year = y; month = m; day = d }
+use Rattle.calendar.proofs.Examples.{on}
 
 -- where a date with the serial day n moves
 abbrev movedFrom : DayAdjust → Date → List ℕ → ℕ → Outcome Date

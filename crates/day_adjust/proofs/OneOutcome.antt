@@ -2,12 +2,11 @@
 -- Assumes nothing.
 use Prim.Native.Nat.{ℕ}
 use mathlib.Core.Path.{_≡_, sym, _∙_}
-use mathlib.Core.Bool.{Bool, true, false}
 use mathlib.Core.List.{List}
 use native.Mathlib.Omega.{arith}
 use lib.Dec.{eqb}
-use Rattle.paper.specs.Outcome.{Outcome, given, Numbered, pick}
-use Rattle.paper.proofs.Outcomes.{unless-numbered, then-numbered}
+use Rattle.paper.specs.Outcome.{given, Numbered, pick}
+use Rattle.paper.proofs.Outcomes.{unless-numbered, then-numbered, pick-numbered}
 use Rattle.calendar.specs.Dates.{isDate, dayNumber}
 use Rattle.calendar.specs.Answers.{dateOf}
 use Rattle.calendar.specs.declared.Date.{Date}
@@ -32,10 +31,6 @@ prev-numbered : (table : List ℕ) (n : ℕ) → Numbered (prevDate table n)
 unfolding prevDate
 prev-numbered table n = then-numbered (prevFrom table n) dateOf (prev-from-numbered table n) date-of-numbered
 
-picked-numbered : {A : Type 0} (b : Bool) (o p : Outcome A) → Numbered o → Numbered p → Numbered (pick b o p)
-picked-numbered true o p h k = h
-picked-numbered false o p h k = k
-
 moved-numbered : (r : DayAdjust) (t : Date) (n : ℕ) (table : List ℕ) → Numbered (movedDate r t n table)
 unfolding modifiedDate
 moved-numbered rule.None t n table = omega arith
@@ -43,12 +38,12 @@ moved-numbered rule.Following t n table = next-numbered table n
 moved-numbered rule.Preceding t n table = prev-numbered table n
 moved-numbered rule.Modified t n table =
     then-numbered (nextDate table n) (λ u. pick (eqb (u .month) (t .month)) (given u) (prevDate table n)) (next-numbered table n)
-    (λ u. picked-numbered (eqb (u .month) (t .month)) (given u) (prevDate table n) (omega arith) (prev-numbered table n))
+    (λ u. pick-numbered (eqb (u .month) (t .month)) (given u) (prevDate table n) (omega arith) (prev-numbered table n))
 
 pub adjusted-numbered : (r : DayAdjust) (t : Date) (table : List ℕ) → Numbered (adjusted r t table)
 unfolding adjusted
 adjusted-numbered r t table =
-    picked-numbered (isBusiness table (dayNumber t)) (given t) (movedDate r t (dayNumber t) table) (omega arith) (moved-numbered r t (dayNumber t) table)
+    pick-numbered (isBusiness table (dayNumber t)) (given t) (movedDate r t (dayNumber t) table) (omega arith) (moved-numbered r t (dayNumber t) table)
 
 pub adjust-numbered : (r : DayAdjust) (t : Date) (table : List ℕ) → Numbered (adjustDate r t table)
 unfolding adjustDate

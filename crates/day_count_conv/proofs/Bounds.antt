@@ -6,7 +6,7 @@ use mathlib.Core.Bool.{true, not}
 use lib.IntN.{pos}
 use lib.Signed.{leZ}
 use lib.Ieee.{Float}
-use Rattle.paper.specs.Outcome.{Outcome, given, refused, both}
+use Rattle.paper.specs.Outcome.{Outcome, given, both}
 use Rattle.paper.proofs.Outcomes.{both-true}
 use Rattle.calendar.specs.Dates.{isDate, isBefore}
 use Rattle.calendar.specs.declared.Date.{Date}
@@ -19,7 +19,6 @@ use Rattle.day_count_conv.specs.Conventions.{partsBits, partsExact, simp
 use Rattle.time_period.specs.declared.TimePeriodUnit.{TimePeriodUnit}
 use Rattle.time_period.specs.declared.TimePeriod.{TimePeriod}
 use Rattle.day_fraction.specs.declared.SimpleRule.{SimpleRule}
-use Rattle.day_fraction.specs.declared.SimpleRule.the-variants.{Act365, Act360, Act365l, D30_360, D30E360}
 use Rattle.day_count_conv.specs.declared.DayCountConv.{DayCountConv}
 use Rattle.day_count_conv.specs.declared.DayCountConv.the-variants as conv
 use Rattle.day_count_conv.specs.declared.RollDate.{RollDate}
@@ -30,7 +29,8 @@ use Rattle.day_count_conv.specs.declared.Extras.{Extras}
 use Rattle.time_period.proofs.Frequencies.{WholeYear, regular-period, whole-year, monthsIn}
 use Rattle.day_fraction.proofs.Bounds.{NearTo, near-to-close, near}
 use Rattle.icma.proofs.Sizes.{parts-size}
-use Rattle.day_count_conv.proofs.Numbers.{not-below, above-one, positive-months}
+use Rattle.paper.proofs.Numbers.{not-below}
+use Rattle.day_count_conv.proofs.Numbers.{above-one, positive-months}
 use Rattle.day_count_conv.proofs.Walks.{walk-near}
 use Rattle.day_count_conv.proofs.Agreement.{unless-agree, then-agree, agree-still}
 
@@ -46,7 +46,7 @@ module _ (start end : Date) (ds : isDate start ≡ true) (de : isDate end ≡ tr
   walked-near p roll f dr e =
       unless-agree NearTo (leZ (pos 1) (p .num)) 14 _ _
       (λ h.
-      let l = not-below (p .num) h in
+      let l = not-below (p .num) (pos 1) h in
       let r = regular-period p f l e in
       let w = whole-year (p .unit) (r .0) f (r .2) in
       then-agree NearTo (icmaParts p start end roll) (λ x. given (partsBits f x)) (λ x. given (partsExact f x))

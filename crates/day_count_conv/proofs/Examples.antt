@@ -1,29 +1,24 @@
 -- The desk card's fractions, and the refusals in their order, as theorems about the definitions.
 -- Assumes nothing.
-use Prim.Native.Nat.{ℕ}
 use mathlib.Core.Path.{_≡_, refl}
 use lib.IntN.{ℤ, pos, negsuc}
+use Rattle.paper.specs.Walks.{walked}
 use Rattle.paper.specs.Outcome.{given, refused}
 use Rattle.calendar.specs.Dates.{isDate, isBefore, isSame, dayNumber, monthDate}
 use Rattle.calendar.specs.declared.Date.{Date}
 use Rattle.gregorian.specs.Gregorian.{leap, lengthIn, monthLength, yearLength, before}
 use Rattle.date_step.specs.Steps.{landing, monthsLater}
 use Rattle.time_period.specs.Periods.{monthsFrequency, yearsFrequency, frequencyOf}
-use Rattle.day_fraction.specs.Exact.{Exact}
 use Rattle.day_fraction.specs.Fractions.{sinceJanuary, exactFraction, impossible}
-use Rattle.icma.specs.Walk.{walk, turnOn, walkOn, turnBack, walkBack, baseFrom, shortParts, firstPart, lastPart, toLast, toEnd, toFirst, longParts, partsFrom, icmaParts}
+use Rattle.icma.specs.Walk.{turnOn, walkOn, turnBack, walkBack, baseFrom, shortParts, firstPart, lastPart, toLast, toEnd, toFirst, longParts, partsFrom, icmaParts}
 use Rattle.day_count_conv.specs.Conventions.{simpleFraction, walkedFraction, frequentFraction, yearFraction, conventionOf, exactly}
 use Rattle.time_period.specs.declared.TimePeriodUnit.the-variants as unit
 use Rattle.day_count_conv.specs.declared.DayCountConv.the-variants as conv
 use Rattle.day_count_conv.specs.declared.RollDate.the-variants as roll-date
 use Rattle.day_count_conv.specs.declared.RollPeriod.the-variants as roll-period
 use Rattle.day_count_conv.specs.declared.Extras.{Extras}
-
-abbrev on : ℕ → ℕ → ℕ → Date
-on y m d = record { year = y; month = m; day = d }
-
-abbrev over : ℤ → ℕ → Exact
-over n d = record { num = n; den = d }
+use Rattle.calendar.proofs.Examples.{on}
+use Rattle.day_fraction.proofs.Examples.{fraction as over}
 
 abbrev none : Extras
 none = record { roll = roll-date.Absent; period = roll-period.Absent }
@@ -40,7 +35,7 @@ pub record Card : Type 0 where
   pub k : yearFraction exactly conv.ActActICMA (on 2021 3 1) (on 2021 6 1) (rolled (on 2022 1 1) (pos 12)) ≡ given (over (pos 92) 365)
 
 pub card : Card
-unfolding leap lengthIn monthLength yearLength before isDate isBefore isSame dayNumber monthDate landing monthsLater monthsFrequency yearsFrequency frequencyOf sinceJanuary exactFraction impossible walk turnOn walkOn turnBack walkBack baseFrom shortParts firstPart lastPart toLast toEnd toFirst longParts partsFrom icmaParts simpleFraction walkedFraction frequentFraction yearFraction
+unfolding leap lengthIn monthLength yearLength before isDate isBefore isSame dayNumber monthDate landing monthsLater monthsFrequency yearsFrequency frequencyOf sinceJanuary exactFraction impossible walked turnOn walkOn turnBack walkBack baseFrom shortParts firstPart lastPart toLast toEnd toFirst longParts partsFrom icmaParts simpleFraction walkedFraction frequentFraction yearFraction
 card = record { g = refl; h = refl; i-30-360 = refl; i-30E-360 = refl; k = refl }
 
 -- the refusals in their order, and what other rules ignore
@@ -57,7 +52,7 @@ pub record Order : Type 0 where
   pub code-six : conventionOf 6 ≡ refused 18
 
 pub order : Order
-unfolding leap lengthIn monthLength yearLength before isDate isBefore isSame dayNumber monthDate landing monthsLater monthsFrequency yearsFrequency frequencyOf sinceJanuary exactFraction impossible walk turnOn walkOn turnBack walkBack baseFrom shortParts firstPart lastPart toLast toEnd toFirst longParts partsFrom icmaParts simpleFraction walkedFraction frequentFraction yearFraction conventionOf
+unfolding leap lengthIn monthLength yearLength before isDate isBefore isSame dayNumber monthDate landing monthsLater monthsFrequency yearsFrequency frequencyOf sinceJanuary exactFraction impossible walked turnOn walkOn turnBack walkBack baseFrom shortParts firstPart lastPart toLast toEnd toFirst longParts partsFrom icmaParts simpleFraction walkedFraction frequentFraction yearFraction conventionOf
 order =
     record {
       start-first = refl;
@@ -78,5 +73,5 @@ pub record Clipped : Type 0 where
   pub zero-on-two-dates : yearFraction exactly conv.ActActICMA (on 2021 5 30) (on 2021 5 31) (rolled (on 2021 5 31) (pos 1)) ≡ given (over (pos 0) 360)
 
 pub clipped : Clipped
-unfolding leap lengthIn monthLength yearLength before isDate isBefore dayNumber monthDate landing monthsLater monthsFrequency frequencyOf walk turnOn walkOn turnBack walkBack baseFrom shortParts firstPart lastPart toLast toEnd toFirst longParts partsFrom icmaParts walkedFraction frequentFraction yearFraction
+unfolding leap lengthIn monthLength yearLength before isDate isBefore dayNumber monthDate landing monthsLater monthsFrequency frequencyOf walked turnOn walkOn turnBack walkBack baseFrom shortParts firstPart lastPart toLast toEnd toFirst longParts partsFrom icmaParts walkedFraction frequentFraction yearFraction
 clipped = record { negative = refl; zero-on-two-dates = refl }

@@ -1,12 +1,11 @@
 -- Of dates already judged the fraction is what its rule gives.
 -- Assumes nothing.
 use mathlib.Core.Path.{_≡_, refl}
-use mathlib.Core.Bool.{Bool, true, false}
-use native.Mathlib.Omega.{arith}
+use mathlib.Core.Bool.{true, false}
 use Rattle.calendar.specs.Dates.{isDate, isBefore}
 use Rattle.calendar.specs.declared.Date.{Date}
 use Rattle.calendar.proofs.Dates.{date-yes}
-use Rattle.calendar.proofs.Order.{before-days, not-before}
+use Rattle.calendar.proofs.Order.{days-not-before, not-before}
 use Rattle.day_fraction.specs.Fractions.{Span}
 use Rattle.day_count_conv.specs.Conventions.{Values, byRule, rollDated, yearFraction}
 use Rattle.day_count_conv.specs.declared.DayCountConv.{DayCountConv}
@@ -20,11 +19,7 @@ spans start end d e b = record { first = d; last = e; order = not-before end sta
 
 pub span-fraction : {A : Type 0} (v : Values A) (rule : DayCountConv) (start end : Date) (x : Extras) → Span start end → rollDated rule (x .roll) ≡ true → yearFraction v rule start end x ≡ byRule v rule start end x
 unfolding yearFraction
-span-fraction v rule start end x s d = rw (s .first, s .last, d, not-turned (isBefore end start) refl)
-  where
-    not-turned : (b : Bool) → isBefore end start ≡ b → isBefore end start ≡ false
-    not-turned true e = let l = before-days end start (date-yes end (s .last)) (date-yes start (s .first)) e in absurd (omega (arith, s .order))
-    not-turned false e = e
+span-fraction v rule start end x s d = rw (s .first, s .last, d, days-not-before end start (date-yes end (s .last)) (date-yes start (s .first)) (s .order))
 
 -- a roll date of the calendar, whether the rule looks at it or not
 pub roll-dated : (rule : DayCountConv) (roll : Date) → isDate roll ≡ true → rollDated rule (roll-date.Date roll) ≡ true

@@ -10,18 +10,15 @@ use lib.Ieee.{Float, binary64, add, sub, div, ofInt, ofBits}
 use Rattle.rounding.specs.Close.{Close}
 use Rattle.gregorian.specs.Gregorian.{leap, lengthIn, monthLength, yearLength, before, beforeMonth}
 use Rattle.calendar.specs.Dates.{isDate, isSame}
-use Rattle.calendar.specs.declared.Date.{Date}
 use Rattle.calendar.proofs.Dates.{date-yes}
 use Rattle.calendar.proofs.Examples.{first-number, last-number}
 use Rattle.day_fraction.specs.Exact.{Exact, difference}
 use Rattle.day_fraction.specs.Fractions.{exactFraction, bits, impossible, over, leapYears, leapBits, sinceJanuary}
 use Rattle.day_fraction.specs.declared.SimpleRule.the-variants.{Act365, Act360, Act365l, D30_360, D30E360}
 use Rattle.day_fraction.proofs.Spans.{since-is}
+use Rattle.calendar.proofs.Examples.{on}
 
-abbrev on : ℕ → ℕ → ℕ → Date
-on y m d = record { year = y; month = m; day = d }
-
-abbrev fraction : ℤ → ℕ → Exact
+abbrev pub fraction : ℤ → ℕ → Exact
 fraction n d = record { num = n; den = d }
 
 abbrev pattern : ℕ → Float

@@ -1,10 +1,9 @@
 -- Laws of the answers: which of them the tests leave, and what they say of the bytes. Assumes nothing.
 use Prim.Native.Nat.{ℕ, _≤_, _<_}
-use mathlib.Core.Path.{_≡_, refl, sym, ap, _∙_, subst}
+use mathlib.Core.Path.{_≡_, refl, sym, ap, _∙_}
 use mathlib.Core.Bool.{Bool, true, false}
 use mathlib.Core.List.{List}
 use lib.ListN.{length}
-use lib.Dec.{T}
 use lib.Ieee.{Float}
 use lib.Ieee.Scale.{finite}
 use Rattle.paper.specs.Outcome.{given, refused, unless}
@@ -17,9 +16,6 @@ use Rattle.decimal.specs.Decimal.{isMinus, tenThousandths, decimalText16
 pub text-is : (x : Float) (s : Bool) (t : ℕ) → s ≡ isMinus x → t ≡ tenThousandths x → signedDecimals s t ≡ decimalText16 x
 unfolding decimalText16
 text-is x s t p q = rw (p, q)
-
-pub finite-apart : (x : Float) → finite x ≡ true → finite x ≡ false → ⊥
-finite-apart x e f = let z : _≡_ {A = Bool} true false = sym e ∙ f in subst T z tt
 
 -- ---- the length
 

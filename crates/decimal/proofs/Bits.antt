@@ -1,20 +1,19 @@
 -- A number's sign and ten-thousandths from its bits. By its fields it is q * 2 ^ k / 2 ^ 1074, and 10000 is 625 * 16.
 -- Assumes nothing.
 use Prim.Native.Nat.{ℕ, zero, suc, _+_, _-_, _*_, _/_, _%_, _^_, _≤_, _<_}
-use mathlib.Core.Path.{_≡_, refl, sym, ap, _∙_, subst}
-use mathlib.Core.Bool.{Bool, true, false, not, cond}
+use mathlib.Core.Path.{_≡_, refl, sym, ap, _∙_}
+use mathlib.Core.Bool.{Bool, true}
 use native.Mathlib.Nat.{mul-one, mul-right-comm, mul-mul-mul-comm, mul-assoc}
 use native.Mathlib.Omega.{arith}
-use lib.Dec.{T, leb, eqb}
+use lib.Dec.{leb}
 use lib.Pow.{pow-add, pow-pos}
-use lib.IntN.{natAbs}
-use lib.Ieee.{Float, nan, inf, fin, up, down, binary64, odd, ofFields, ofBits, ne, isNan}
+use lib.Ieee.{Float, nan, inf, fin, up, down, binary64, ofFields, ofBits}
 use lib.Ieee.Fits.{down-pos}
-use lib.Ieee.Exact.{HasValue, odd-sign}
+use lib.Ieee.Exact.{HasValue}
 use lib.Ieee.Nearest.{closest, closest-same}
 use lib.Ieee.Scale.{finite}
-use borrow.Author.Tests.{ne-eqb}
-use Rattle.rounding.specs.Close.{signed}
+use Rattle.rounding.proofs.Integers.{signed-parts}
+use Rattle.rounding.proofs.Fields.{few-value, some-value, not-finite}
 use Rattle.decimal.specs.Decimal.{isMinus, tenThousandths}
 use Rattle.decimal.specs.Parts.{PartsOf}
 use Rattle.decimal.specs.declared.Parts.the-variants.{Small, Large, NotFinite}
@@ -47,11 +46,6 @@ exact q k h =
 
 -- ---- a number by its value a / c
 
-size-signed : (s : Bool) (n : ℕ) → natAbs (signed s n) ≡ n
-size-signed false n = refl
-size-signed true zero = refl
-size-signed true (suc n) = refl
-
 -- the number v is finite, has the sign s, and t ten-thousandths
 abbrev Is : Float → Bool → ℕ → Type 0
 Is v s t = (finite v ≡ true) × (s ≡ isMinus v) × (t ≡ tenThousandths v)
@@ -63,38 +57,27 @@ by-value (inf r) s a c t C h e = absurd h
 by-value (fin r m x) s a c t C h e = (
   refl,
   sym (h .0),
-  e ∙ rw (size-signed r (m * up x)) (closest-same (a * 10000) c (m * up x * 10000) (down x) C (down-pos x)
+  e ∙ rw (signed-parts r (m * up x) .2) (closest-same (a * 10000) c (m * up x * 10000) (down x) C (down-pos x)
       (mul-right-comm a 10000 (down x) ∙ ap (λ (n : ℕ). n * 10000) (sym (h .1)) ∙ mul-right-comm (m * up x) c 10000)),
 )
 
 -- ---- by its fields
 
 few : (s : Bool) (d t : ℕ) → t ≡ closest (d * 2 ^ 0 * 10000) (2 ^ 1074) → Is (ofFields binary64 s 0 d) s t
-unfolding ofFields
-few s d t e = by-value (odd 53 s d 0 1074) s (d * 2 ^ 0) (2 ^ 1074) t (pow-pos 1074) (odd-sign 53 s d 0 1074) e
+few s d t e = by-value (ofFields binary64 s 0 d) s (d * 2 ^ 0) (2 ^ 1074) t (pow-pos 1074) (few-value s d) e
 
 some : (s : Bool) (f d t : ℕ) → 1 ≤ f → f < 2047 → t ≡ closest ((4503599627370496 + d) * 2 ^ (f - 1) * 10000) (2 ^ 1074) → Is (ofFields binary64 s f d) s t
-unfolding ofFields
 some s zero d t l h e = absurd (omega arith)
 some s (suc x) d t l h e =
     let p : suc x - 1 ≡ x = omega arith in
-    rw (ne-eqb (suc x) 2047 (λ i. omega arith))
-    (by-value (odd 53 s (4503599627370496 + d) x 1074) s ((4503599627370496 + d) * 2 ^ x) (2 ^ 1074) t (pow-pos 1074) (odd-sign 53 s (4503599627370496 + d) x 1074) (rw (p) at e))
-
-none : (s : Bool) (d : ℕ) → finite (ofFields binary64 s 2047 d) ≡ false
-unfolding ofFields
-none s d = go (eqb d 0)
-  where
-    go : (b : Bool) → finite (cond b (inf s) nan) ≡ false
-    go true = refl
-    go false = refl
+    by-value (ofFields binary64 s (suc x) d) s ((4503599627370496 + d) * 2 ^ x) (2 ^ 1074) t (pow-pos 1074) (some-value s x d h) (rw (p) at e)
 
 -- ---- and by its bits b
 
 module _ (b : ℕ) where
   pub bits-none : b % 9223372036854775808 / 4503599627370496 ≡ 2047 → PartsOf (ofBits binary64 b) NotFinite
   unfolding ofBits
-  bits-none e = rw (e) (none (leb 9223372036854775808 b) (b % 4503599627370496))
+  bits-none e = rw (e) (not-finite (leb 9223372036854775808 b) (b % 4503599627370496))
 
   pub bits-few : (t : ℕ) → b % 9223372036854775808 / 4503599627370496 ≡ 0 → t ≡ closest (b % 4503599627370496 * 2 ^ 0 * 10000) (2 ^ 1074) → PartsOf (ofBits binary64 b) (Small (leb 9223372036854775808 b) t)
   unfolding ofBits
@@ -114,10 +97,3 @@ module _ (b : ℕ) where
       let p : f - 1071 ≡ f - 1 - 1070 = omega arith in
       let r = some (leb 9223372036854775808 b) f (b % 4503599627370496) (q * 625 * 2 ^ (f - 1071)) (omega arith) h (ap (λ (k : ℕ). q * 625 * 2 ^ k) p ∙ exact q (f - 1) (omega arith)) in
       (r .0, r .1, r .2, omega arith, omega arith)
-
--- a number equal to itself is no NaN
-pub not-nan : (x : Float) → ne x x ≡ false → T (not (isNan x))
-unfolding ne isNan
-not-nan nan e = subst T e tt
-not-nan (inf s) e = tt
-not-nan (fin s m d) e = tt

@@ -2,10 +2,11 @@
 -- Assumes nothing.
 use Prim.Native.Nat.{ℕ, zero, suc, _+_, _-_, _*_, _/_, _%_, _^_, _≤_, _<_, compare, Ordering·lt, Ordering·eq, Ordering·gt, compare·zero-zero, compare·zero-suc, compare·suc-zero, compare·suc-suc}
 use mathlib.Core.Path.{_≡_, _∙_}
-use native.Mathlib.Nat.{one-mul, mod-eq-of-lt, div-eq-of-lt, div-mul-le-self, div-le-self}
+use native.Mathlib.Nat.{mod-eq-of-lt, div-eq-of-lt, div-mul-le-self}
 use native.Mathlib.Omega.{arith}
-use lib.Pow.{pow-lt, pow-mono, split}
+use lib.Pow.{pow-mono, split}
 use lib.Ieee.Nearest.{closest}
+use Rattle.paper.proofs.Numbers.{shifted-one}
 
 -- ---- what a comparison answers
 
@@ -66,17 +67,11 @@ module _ (n p : ℕ) (small : n < 2 ^ 63) where
   left-over : n - n / 2 ^ p * 2 ^ p % 18446744073709551616 ≡ n % 2 ^ p
   left-over = omega (arith, back, split n p)
 
-  unit : p < 64 → 1 * 2 ^ p % 18446744073709551616 ≡ 2 ^ p
-  unit h = rw (one-mul (2 ^ p)) (mod-eq-of-lt {m = 18446744073709551616} (pow-lt {j = 64} h))
-
   pub rounds-down : p < 64 → (n - n / 2 ^ p * 2 ^ p % 18446744073709551616) * 2 < 1 * 2 ^ p % 18446744073709551616 → n / 2 ^ p ≡ closest n (2 ^ p)
-  rounds-down h l = closest-down n (2 ^ p) (rw (left-over, unit h) at l)
+  rounds-down h l = closest-down n (2 ^ p) (rw (left-over, shifted-one p h) at l)
 
   pub rounds-up : p < 64 → 1 * 2 ^ p % 18446744073709551616 < (n - n / 2 ^ p * 2 ^ p % 18446744073709551616) * 2 → n / 2 ^ p + 1 ≡ closest n (2 ^ p)
-  rounds-up h l = closest-up n (2 ^ p) (rw (left-over, unit h) at l)
+  rounds-up h l = closest-up n (2 ^ p) (rw (left-over, shifted-one p h) at l)
 
   pub rounds-even : p < 64 → 1 * 2 ^ p % 18446744073709551616 ≤ (n - n / 2 ^ p * 2 ^ p % 18446744073709551616) * 2 → (n - n / 2 ^ p * 2 ^ p % 18446744073709551616) * 2 ≤ 1 * 2 ^ p % 18446744073709551616 → n / 2 ^ p + n / 2 ^ p % 2 ≡ closest n (2 ^ p)
-  rounds-even h l m = closest-tie n (2 ^ p) (omega (arith, rw (left-over, unit h) at l, rw (left-over, unit h) at m))
-
-  pub whole-most : n / 2 ^ p ≤ n
-  whole-most = div-le-self n (2 ^ p)
+  rounds-even h l m = closest-tie n (2 ^ p) (omega (arith, rw (left-over, shifted-one p h) at l, rw (left-over, shifted-one p h) at m))

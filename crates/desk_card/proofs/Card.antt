@@ -1,10 +1,9 @@
 -- The desk card holds: steps, refusals, exact values and the amount by computing; how far off each fraction is by the bound of all fractions.
 -- Assumes nothing.
-use Prim.Native.Nat.{_≤_}
 use mathlib.Core.Path.{_≡_, refl, subst}
 use lib.Dec.{lit≤}
-use lib.IntN.{pos}
 use lib.Ieee.{add, mul, div, ofInt, ofBits}
+use Rattle.paper.specs.Walks.{walked}
 use Rattle.paper.specs.Outcome.{Outcome}
 use Rattle.gregorian.specs.Gregorian.{leap, lengthIn, monthLength, yearLength, before, unitOf}
 use Rattle.calendar.specs.Dates.{isDate, isDay, isBefore, isSame, dayNumber, yearOf, inYear, theDate, monthDate}
@@ -20,7 +19,7 @@ use Rattle.coupon_date.specs.Coupons.{couponDate}
 use Rattle.day_adjust.specs.Adjustment.{nextDate, prevDate, modifiedDate, adjusted, adjustDate}
 use Rattle.day_fraction.specs.Exact.{Exact}
 use Rattle.day_fraction.specs.Fractions.{sinceJanuary, exactFraction, bits, impossible}
-use Rattle.icma.specs.Walk.{walk, turnOn, walkOn, turnBack, walkBack, baseFrom, shortParts, firstPart, lastPart, toLast, toEnd, toFirst, longParts, partsFrom, icmaParts}
+use Rattle.icma.specs.Walk.{turnOn, walkOn, turnBack, walkBack, baseFrom, shortParts, firstPart, lastPart, toLast, toEnd, toFirst, longParts, partsFrom, icmaParts}
 use Rattle.day_count_conv.specs.Conventions.{simpleFraction, walkedFraction, frequentFraction, yearFraction, inBits, exactly, Within}
 use Rattle.day_count_conv.specs.declared.DayCountConv.{DayCountConv}
 use Rattle.day_count_conv.specs.declared.Extras.{Extras}
@@ -28,7 +27,7 @@ use Rattle.day_count_conv.proofs.Bounds.{year-within}
 use Rattle.cash_amount.specs.Amounts.{isCapital, isCurrency}
 use Rattle.note_limits.specs.Limits.{isNoteNumber, isRate}
 use Rattle.bond.specs.Notes.{periodChecks, termChecks, noteChecks, inYearOf, firstCouponEnd}
-use Rattle.accrued_interest.specs.Accrued.{nextPeriod, goesOn, periodWithin, periodHolding, amountDue, accruedIn, accruedFrom, accruedOn, accrued}
+use Rattle.accrued_interest.specs.Accrued.{nextPeriod, goesOn, periodHolding, amountDue, accruedIn, accruedFrom, accruedOn, accrued}
 use Rattle.desk_card.specs.Card.{Fraction, DeskCard}
 
 -- an exact fraction is all that is left to show: the general bound says how far off its f64 is
@@ -36,7 +35,7 @@ line : (rule : DayCountConv) (start end : Date) (x : Extras) (answer : Outcome E
 line rule start end x answer e = record { exact = e; close = subst (λ (o : Outcome Exact). Within (yearFraction inBits rule start end x) o) e (year-within rule start end x) }
 
 pub desk-card : DeskCard
-unfolding isNoteNumber isRate isCapital isCurrency leap lengthIn monthLength yearLength before unitOf isDate isDay isBefore isSame dayNumber yearOf inYear theDate dateOf weekdayOf monthDate couponDate existingDate landing monthsLater yearsLater inverseOf addTo subFrom ascendsFrom isTable listed isWeekend isBusiness firstOf nextFrom lastOf prevFrom nextDate prevDate modifiedDate adjusted adjustDate monthsFrequency yearsFrequency frequencyOf sinceJanuary exactFraction bits impossible walk turnOn walkOn turnBack walkBack baseFrom shortParts firstPart lastPart toLast toEnd toFirst longParts partsFrom icmaParts simpleFraction walkedFraction frequentFraction yearFraction periodChecks termChecks noteChecks inYearOf firstCouponEnd nextPeriod goesOn periodWithin periodHolding amountDue accruedIn accruedFrom accruedOn accrued add mul div ofInt ofBits
+unfolding isNoteNumber isRate isCapital isCurrency leap lengthIn monthLength yearLength before unitOf isDate isDay isBefore isSame dayNumber yearOf inYear theDate dateOf weekdayOf monthDate couponDate existingDate landing monthsLater yearsLater inverseOf addTo subFrom ascendsFrom isTable listed isWeekend isBusiness firstOf nextFrom lastOf prevFrom nextDate prevDate modifiedDate adjusted adjustDate monthsFrequency yearsFrequency frequencyOf sinceJanuary exactFraction bits impossible walked turnOn walkOn turnBack walkBack baseFrom shortParts firstPart lastPart toLast toEnd toFirst longParts partsFrom icmaParts simpleFraction walkedFraction frequentFraction yearFraction periodChecks termChecks noteChecks inYearOf firstCouponEnd nextPeriod goesOn periodHolding amountDue accruedIn accruedFrom accruedOn accrued add mul div ofInt ofBits
 desk-card =
     record {
       a = refl;

@@ -1,6 +1,5 @@
 -- Flows after a date, as theorems about the definitions: the three flows of document 01's note, of any amounts.
 -- Assumes nothing.
-use Prim.Native.Nat.{ℕ}
 use mathlib.Core.Path.{_≡_, refl}
 use mathlib.Core.List.{List, [], _∷_}
 use lib.Ieee.{Float}
@@ -12,9 +11,7 @@ use Rattle.calendar.specs.declared.Date.{Date}
 use Rattle.cash_flow.specs.declared.CashFlow.{CashFlow}
 use Rattle.fixed_income.specs.After.{laterOf, allOf, flowsAfter}
 use Rattle.fixed_income.specs.Promises.{recordsWritten}
-
-abbrev on : ℕ → ℕ → ℕ → Date
-on y m d = record { year = y; month = m; day = d }
+use Rattle.calendar.proofs.Examples.{on}
 
 abbrev euros : Date → Float → CashFlow
 euros t x = record { date = t; currency = record { first = 69; second = 85; third = 82 }; amount = x }

@@ -2,23 +2,18 @@
 -- Assumes nothing.
 use Prim.Native.Nat.{ℕ, _+_, _≤_, _<_}
 use mathlib.Core.Path.{_≡_, refl, ap, subst, _∙_}
-use mathlib.Core.Bool.{Bool, true, false}
+use mathlib.Core.Bool.{Bool, true, false, true≢false, false≢true}
 use mathlib.Core.List.{List, [], _∷_, _++_, map}
 use native.Mathlib.Omega.{arith}
-use native.Mathlib.Numerals.{add-one}
 use borrow.Author.Tests.{le-leb, lt-leb, leb-true}
 use lib.Dec.{leb}
 use lib.ListN.{length, getD, drop, set, drop-of-length-le}
-use lib.Seq.{drop-cons}
 use Rattle.paper.specs.Outcome.{Outcome, given, refused, unless, both}
+use Rattle.paper.proofs.Lists.{head-at}
 use Rattle.room.specs.Room.{fitting, counted, roomAfter}
 use Rattle.room.proofs.Filling.{Filled, filled-none, filled-more, filled-all}
 use Rattle.fixed_income.specs.After.{laterOf, allOf, after}
 use Rattle.fixed_income.specs.Promises.{isRefused}
-
--- what stands at place i, and what follows it
-pub head-at : {A : Type 0} (xs : List A) (i : ℕ) (d : A) → i < length xs → drop i xs ≡ getD xs i d ∷ drop (i + 1) xs
-head-at xs i d h = rw (add-one, drop-cons xs i d)
 
 module _ {A : Type 0} (later : A → Bool) where
   pub later-yes : (x : A) (l : List A) → later x ≡ true → laterOf later (x ∷ l) ≡ x ∷ laterOf later l
@@ -114,21 +109,18 @@ module _ {A : Type 0} (ok : Bool) (dated later : A → Bool) (xs : List A) (plac
 
 -- a refusal keeps the room
 pub kept : {A B : Type 0} (part : A → B) (o : Outcome (List A)) (old : List B) → isRefused (counted o) ≡ true → roomAfter part o old ≡ old
-kept part (given new) old h = let z : _≡_ {A = Bool} false true = h in absurd (differ z)
-  where
-    differ : false ≡ true → ⊥
-    differ e = let z : _≡_ {A = ℕ} 0 1 = cc in omega arith
+kept part (given new) old h = absurd (false≢true h)
 kept part (refused n) old h = refl
 
 -- and what is not refused is the later ones, for which there is room
 module _ {A : Type 0} (new : List A) (places : ℕ) where
   roomy : (b : Bool) → leb (length new) places ≡ b → isRefused (counted (unless b 16 (given new))) ≡ false → (length new ≤ places) × (unless b 16 (given new) ≡ given new)
   roomy true e h = (leb-true (length new) places e, refl)
-  roomy false e h = let z : _≡_ {A = ℕ} 0 1 = cc in absurd (omega arith)
+  roomy false e h = absurd (true≢false h)
 
   judged : (b : Bool) → isRefused (counted (fitting places (unless b 1 (given new)))) ≡ false → (length new ≤ places) × (fitting places (unless b 1 (given new)) ≡ given new)
   judged true h = roomy (leb (length new) places) refl h
-  judged false h = let z : _≡_ {A = ℕ} 0 1 = cc in absurd (omega arith)
+  judged false h = absurd (true≢false h)
 
 pub unrefused : {A : Type 0} (ok : Bool) (dated later : A → Bool) (xs : List A) (places : ℕ) → isRefused (counted (fitting places (after ok dated later xs))) ≡ false
     → (length (laterOf later xs) ≤ places) × (fitting places (after ok dated later xs) ≡ given (laterOf later xs))

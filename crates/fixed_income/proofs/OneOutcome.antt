@@ -5,11 +5,10 @@ use mathlib.Core.Path.{_≡_, sym, _∙_}
 use mathlib.Core.Bool.{Bool}
 use mathlib.Core.List.{List}
 use native.Mathlib.Omega.{arith}
-use lib.Dec.{leb}
-use lib.ListN.{length}
-use Rattle.paper.specs.Outcome.{Outcome, given, refused, Numbered, both}
+use Rattle.paper.specs.Outcome.{given, Numbered, both}
 use Rattle.paper.proofs.Outcomes.{unless-numbered}
 use Rattle.room.specs.Room.{fitting, counted}
+use Rattle.room.proofs.Fitting.{counted-numbered, fitting-numbered}
 use Rattle.calendar.specs.Dates.{isDate}
 use Rattle.calendar.specs.declared.Date.{Date}
 use Rattle.cash_flow.specs.declared.CashFlow.{CashFlow}
@@ -21,14 +20,6 @@ use Rattle.fixed_income.specs.Promises.{recordsWritten, AfterPromise}
 -- the answer and the room
 pub one-after : (flows : List CashFlow) (date : Date) (room e f : List CashFlow) (r s : FlowsAnswer) → AfterPromise flows date room r e → AfterPromise flows date room s f → (r ≡ s) × (e ≡ f)
 one-after flows date room e f r s p q = (same-flows-answer r s (p .answer ∙ sym (q .answer)), p .contents ∙ sym (q .contents))
-
-counted-numbered : {A : Type 0} (o : Outcome (List A)) → Numbered o → Numbered (counted o)
-counted-numbered (given new) h = h
-counted-numbered (refused n) h = h
-
-fitting-numbered : {A : Type 0} (places : ℕ) (o : Outcome (List A)) → Numbered o → Numbered (fitting places o)
-fitting-numbered places (given new) h = unless-numbered (leb (length new) places) 16 (given new) (omega arith) h
-fitting-numbered places (refused n) h = h
 
 pub numbered : {A : Type 0} (ok : Bool) (dated later : A → Bool) (xs : List A) (places : ℕ) → Numbered (counted (fitting places (after ok dated later xs)))
 numbered ok dated later xs places =

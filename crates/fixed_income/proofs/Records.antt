@@ -6,9 +6,10 @@ use mathlib.Core.Bool.{Bool, true, false, not}
 use mathlib.Core.List.{List, _∷_}
 use native.Mathlib.Omega.{arith}
 use lib.Dec.{T}
-use lib.Ieee.{nan}
+use lib.Ieee.Bits.{is-true, is-false}
 use lib.ListN.{length, getD, drop, set}
 use Rattle.paper.specs.Outcome.{given}
+use Rattle.paper.proofs.Lists.{head-at}
 use Rattle.room.specs.Room.{counted}
 use Rattle.calendar.specs.Dates.{isDate}
 use Rattle.calendar.specs.declared.Date.{Date}
@@ -16,26 +17,15 @@ use Rattle.cash_flow.specs.Flows.{flowsOutcome}
 use Rattle.cash_flow.specs.declared.CashFlow.{CashFlow}
 use Rattle.cash_flow.specs.declared.FlowsAnswer.{FlowsAnswer}
 use Rattle.cash_flow.specs.declared.FlowsAnswer.the-variants.{Flows, Refused}
+use Rattle.cash_flow.proofs.NoFlow.{noFlow}
 use Rattle.fixed_income.specs.After.{laterOf, hasDate, isLater, flowsAfter}
 use Rattle.fixed_income.specs.Promises.{isRefused, recordsWritten, AfterPromise}
-use Rattle.fixed_income.proofs.Later.{head-at, Passed, passed-none, passed-yes, passed-no, passed-fits, Judging, judging-none, judging-yes, judging-no, undated, undated-flow, too-few, enough, kept, unrefused, Column, column-none, column-yes, column-no, column-all}
+use Rattle.fixed_income.proofs.Later.{Passed, passed-none, passed-yes, passed-no, passed-fits, Judging, judging-none, judging-yes, judging-no, undated, undated-flow, too-few, enough, kept, unrefused, Column, column-none, column-yes, column-no, column-all}
 
--- what a test that was taken says
-pub held : (t : Bool) → T t → t ≡ true
-held true h = refl
-held false h = absurd h
-
-pub failed : (t : Bool) → T (not t) → t ≡ false
-failed true h = absurd h
-failed false h = refl
-
+-- what a test that was not taken says of the opposite
 pub not-failed : (t : Bool) → T (not (not t)) → t ≡ true
 not-failed true h = refl
 not-failed false h = absurd h
-
--- what stands past the end of a list of records
-abbrev pub noFlow : CashFlow
-noFlow = record { date = record { year = 0; month = 0; day = 0 }; currency = record { first = 0; second = 0; third = 0 }; amount = nan }
 
 -- ---- the first pass: i records are judged, and n of them are later
 pub record Counting (date : Date) (ys : List CashFlow) : Type 0 where
@@ -48,10 +38,10 @@ counting-none date ys = record { i = 0; n = 0; judging = judging-none hasDate (i
 
 module _ (date : Date) (ys : List CashFlow) (t : Counting date ys) (l : t .i < length ys) (good : T (not (not (hasDate (getD ys (t .i) noFlow))))) where
   abbrev pub counting-yes : T (isLater date (getD ys (t .i) noFlow)) → Counting date ys
-  counting-yes h = record { i = t .i + 1; n = t .n + 1; judging = judging-yes hasDate (isLater date) ys noFlow (t .i) (t .n) l (t .judging) (not-failed _ good) (held _ h) }
+  counting-yes h = record { i = t .i + 1; n = t .n + 1; judging = judging-yes hasDate (isLater date) ys noFlow (t .i) (t .n) l (t .judging) (not-failed _ good) (is-true _ h) }
 
   abbrev pub counting-no : T (not (isLater date (getD ys (t .i) noFlow))) → Counting date ys
-  counting-no h = record { i = t .i + 1; n = t .n; judging = judging-no hasDate (isLater date) ys noFlow (t .i) (t .n) l (t .judging) (not-failed _ good) (failed _ h) }
+  counting-no h = record { i = t .i + 1; n = t .n; judging = judging-no hasDate (isLater date) ys noFlow (t .i) (t .n) l (t .judging) (not-failed _ good) (is-false _ h) }
 
 -- its answers
 abbrev pub Answers : Date → List CashFlow → ℕ → FlowsAnswer → Type 0
@@ -60,12 +50,12 @@ Answers date ys places r = flowsOutcome r ≡ counted (recordsWritten ys date pl
 module _ (date : Date) (ys : List CashFlow) (places : ℕ) where
   pub no-date : T (not (isDate date)) → Answers date ys places (Refused 1)
   unfolding recordsWritten flowsAfter
-  no-date h = undated (isDate date) hasDate (isLater date) ys places (failed _ h)
+  no-date h = undated (isDate date) hasDate (isLater date) ys places (is-false _ h)
 
   module _ (t : Counting date ys) where
     pub no-flow-date : t .i < length ys → T (not (hasDate (getD ys (t .i) noFlow))) → Answers date ys places (Refused 1)
     unfolding recordsWritten flowsAfter
-    no-flow-date l h = undated-flow (isDate date) hasDate (isLater date) ys places noFlow (t .i) (t .n) l (t .judging) (failed _ h)
+    no-flow-date l h = undated-flow (isDate date) hasDate (isLater date) ys places noFlow (t .i) (t .n) l (t .judging) (is-false _ h)
 
     pub no-room : T (not (not (isDate date))) → length ys ≤ t .i → places < t .n → Answers date ys places (Refused 16)
     unfolding recordsWritten flowsAfter
@@ -89,12 +79,12 @@ copying-none date ys old = record { i = 0; k = 0; out = old; passed = passed-non
 module _ (date : Date) (ys old : List CashFlow) (r : FlowsAnswer) (answers : Answers date ys (length old) r) where
   -- a refusal keeps the room
   pub copy-refused : T (isRefused (flowsOutcome r)) → AfterPromise ys date old r old
-  copy-refused h = record { answer = answers; contents = sym (kept (λ f. f) (recordsWritten ys date (length old)) old (ap isRefused (sym answers) ∙ held _ h)) }
+  copy-refused h = record { answer = answers; contents = sym (kept (λ f. f) (recordsWritten ys date (length old)) old (ap isRefused (sym answers) ∙ is-true _ h)) }
 
   module _ (given-so : T (not (isRefused (flowsOutcome r)))) where
     told : (length (laterOf (isLater date) ys) ≤ length old) × (recordsWritten ys date (length old) ≡ given (laterOf (isLater date) ys))
     unfolding recordsWritten flowsAfter
-    told = unrefused (isDate date) hasDate (isLater date) ys (length old) (ap isRefused (sym answers) ∙ failed _ given-so)
+    told = unrefused (isDate date) hasDate (isLater date) ys (length old) (ap isRefused (sym answers) ∙ is-false _ given-so)
 
     pub k-room : (t : Copying date ys old) → t .k ≤ length old
     k-room t = omega (arith, told .0, t .passed .told)
@@ -104,15 +94,15 @@ module _ (date : Date) (ys old : List CashFlow) (r : FlowsAnswer) (answers : Ans
       at-turn = head-at ys (t .i) noFlow l
 
       pub k-inside : T (isLater date (getD ys (t .i) noFlow)) → t .k < length (t .out)
-      k-inside h = omega (arith, told .0, t .column .same-length, passed-fits (isLater date) ys (t .i) (t .k) (getD ys (t .i) noFlow) l at-turn (t .passed) (held _ h))
+      k-inside h = omega (arith, told .0, t .column .same-length, passed-fits (isLater date) ys (t .i) (t .k) (getD ys (t .i) noFlow) l at-turn (t .passed) (is-true _ h))
 
       abbrev pub copying-yes : T (isLater date (getD ys (t .i) noFlow)) → Copying date ys old
       copying-yes h = record {
         i = t .i + 1;
         k = t .k + 1;
         out = set (t .out) (t .k) (getD ys (t .i) noFlow);
-        passed = passed-yes (isLater date) ys (t .i) (t .k) (getD ys (t .i) noFlow) l at-turn (t .passed) (held _ h);
-        column = column-yes (λ f. f) (isLater date) ys old (t .i) (t .k) (getD ys (t .i) noFlow) at-turn (t .out) (t .column) (held _ h) (k-inside h);
+        passed = passed-yes (isLater date) ys (t .i) (t .k) (getD ys (t .i) noFlow) l at-turn (t .passed) (is-true _ h);
+        column = column-yes (λ f. f) (isLater date) ys old (t .i) (t .k) (getD ys (t .i) noFlow) at-turn (t .out) (t .column) (is-true _ h) (k-inside h);
       }
 
       abbrev pub copying-no : T (not (isLater date (getD ys (t .i) noFlow))) → Copying date ys old
@@ -120,8 +110,8 @@ module _ (date : Date) (ys old : List CashFlow) (r : FlowsAnswer) (answers : Ans
         i = t .i + 1;
         k = t .k;
         out = t .out;
-        passed = passed-no (isLater date) ys (t .i) (t .k) (getD ys (t .i) noFlow) l at-turn (t .passed) (failed _ h);
-        column = column-no (λ f. f) (isLater date) ys old (t .i) (t .k) (getD ys (t .i) noFlow) at-turn (t .out) (t .column) (failed _ h);
+        passed = passed-no (isLater date) ys (t .i) (t .k) (getD ys (t .i) noFlow) l at-turn (t .passed) (is-false _ h);
+        column = column-no (λ f. f) (isLater date) ys old (t .i) (t .k) (getD ys (t .i) noFlow) at-turn (t .out) (t .column) (is-false _ h);
       }
 
     pub copy-ends : (t : Copying date ys old) → length ys ≤ t .i → AfterPromise ys date old r (t .out)

@@ -1,15 +1,16 @@
 -- Laws of the text: its length, its parts one after another, and the same text from an array of digits. Assumes nothing.
 use Prim.Native.Nat.{ℕ, zero, suc, _+_, _-_, _*_, _/_, _%_, _^_, _≤_, _<_, max}
 use mathlib.Core.Path.{_≡_, sym, ap, _∙_}
-use mathlib.Core.Bool.{Bool, true, false}
+use mathlib.Core.Bool.{Bool}
 use mathlib.Core.List.{List, [], _∷_, _++_, append-assoc}
 use native.Mathlib.Nat.{pow-suc, lt-of-lt-of-le, le-trans, div-lt-iff-lt-mul}
 use native.Mathlib.Omega.{arith}
 use lib.Pow.{pow-add, pow-mono, shl-lt}
 use lib.ListN.{length, take, drop, replicate, length-append, length-replicate, length-drop}
-use lib.Seq.{take-all, take-at, drop-at, length-take-le}
+use lib.Seq.{take-at, drop-at, length-take-le}
 use Rattle.text.specs.Writing.{digits, places, decimalText, signText, rightAligned, Wrote}
 use Rattle.text_lengths.proofs.Digits.{length-digits, length-decimal, decimal-within, digits-split, digits-last}
+use Rattle.text_lengths.proofs.Signs.{sign-within}
 use Rattle.text.proofs.Putting.{wrote-then}
 use Rattle.text.proofs.Writers.{length-aligned, wrote-is}
 use Rattle.four_decimals.specs.FourDecimals.{fourDecimals}
@@ -22,16 +23,12 @@ pub four-long : (t : ℕ) → length (fourDecimals t) ≡ length (decimalText (t
 unfolding fourDecimals
 four-long t = omega (arith, length-append (decimalText (t / 10000)) (46 ∷ digits 4 t), length-digits 4 t)
 
-pub sign-short : (s : Bool) → length (signText s) ≤ 1
-sign-short true = omega arith
-sign-short false = omega arith
-
 pub signed-long : (s : Bool) (t : ℕ) → length (signedDecimals s t) ≡ max 16 (length (signText s) + length (fourDecimals t))
 signed-long s t = length-aligned 16 (signText s ++ fourDecimals t) ∙ ap (max 16) (length-append (signText s) (fourDecimals t))
 
 -- ten digits of a whole part, a point, four decimals and a sign are 16
 pub columns-filled : (s : Bool) (t : ℕ) → t < 100000000000000 → 16 ≡ length (signedDecimals s t)
-columns-filled s t h = omega (arith, signed-long s t, four-long t, sign-short s, decimal-within 10 (t / 10000) (omega arith) (omega arith))
+columns-filled s t h = omega (arith, signed-long s t, four-long t, sign-within s, decimal-within 10 (t / 10000) (omega arith) (omega arith))
 
 -- the whole part of 64 bits has at most 20 digits
 pub whole-short : (n : ℕ) → n < 18446744073709551616 → length (decimalText (n / 10000)) ≤ 20
@@ -160,11 +157,6 @@ blanks-wrote d e f at b r k size s q v w h =
 pub array-wrote : (d e f a : List ℕ) (at b r z : ℕ) (s : Bool) → z ≡ wholeStart a → Wrote d e at (frontText s (length a + 1 - z)) b → Wrote e f b (pointed a z) r → at + length (arrayText s a) ≤ length d → Wrote d f at (arrayText s a) r
 array-wrote d e f a at b r z s q v w h =
     wrote-then d e f at b r (frontText s (length a + 1 - wholeStart a)) (pointed a (wholeStart a)) (rw (q) at v) (rw (q) at w) (omega (arith, length-append (frontText s (length a + 1 - wholeStart a)) (pointed a (wholeStart a))))
-
--- ---- a part of the digits, as a slice gives it
-
-pub part-from : (d : List ℕ) (k : ℕ) → take (length d - k) (drop k d) ≡ drop k d
-part-from d k = take-all (length d - k) (drop k d) (omega (arith, length-drop k d))
 
 pub pointed-room : (d : List ℕ) (z : ℕ) → z + 5 ≤ length d → length (take (length d - 4 - z) (drop z d)) + length (46 ∷ drop (length d - 4) d) ≡ length d - z + 1
 pointed-room d z h = sym (length-append (take (length d - 4 - z) (drop z d)) (46 ∷ drop (length d - 4) d)) ∙ pointed-long d z h

@@ -10,6 +10,7 @@ use lib.ListN.{List·getD-eq-default}
 use lib.Dec.{eqb, leb}
 use borrow.Author.Tests.{leb-true, eqb-true}
 use Rattle.paper.specs.Outcome.{pick}
+use Rattle.paper.proofs.Numbers.{next-up}
 use Rattle.gregorian.specs.Gregorian.{leap, lengths, lengthIn, monthLength, yearLength, before, beforeMonth}
 use Rattle.gregorian.proofs.Table.{passes, passes-at}
 
@@ -95,16 +96,13 @@ pub none : (y m : ℕ)
 unfolding monthLength
 none y m a b c d = by (decLt 0 m)
   where
-    up : (k : ℕ) → k ≤ m → (m ≡ k → ⊥) → suc k ≤ m
-    up k h n = omega arith
-
     by : Dec (0 < m) → 0 ≡ lengthIn (leap y) m
     by (no l) = let z : m ≡ 0 = omega arith in sym (ap (lengthIn (leap y)) z ∙ no-month (leap y))
     by (yes l) =
-        let to5 = up 4 (up 3 (up 2 (up 1 l (λ e. a (inl e))) d) (λ e. a (inr (inl e)))) (λ e. c (inl e)) in
-        let to9 = up 8 (up 7 (up 6 (up 5 to5 (λ e. a (inr (inr (inl e))))) (λ e. c (inr (inl e)))) (λ e. a (inr (inr (inr e))))) (λ e. b (inl e)) in
+        let to5 = next-up 4 m (next-up 3 m (next-up 2 m (next-up 1 m l (λ e. a (inl e))) d) (λ e. a (inr (inl e)))) (λ e. c (inl e)) in
+        let to9 = next-up 8 m (next-up 7 m (next-up 6 m (next-up 5 m to5 (λ e. a (inr (inr (inl e))))) (λ e. c (inr (inl e)))) (λ e. a (inr (inr (inr e))))) (λ e. b (inl e)) in
         sym (past (leap y) m
-        (up 12 (up 11 (up 10 (up 9 to9 (λ e. c (inr (inr (inl e))))) (λ e. b (inr (inl e)))) (λ e. c (inr (inr (inr e))))) (λ e. b (inr (inr e)))))
+        (next-up 12 m (next-up 11 m (next-up 10 m (next-up 9 m to9 (λ e. c (inr (inr (inl e))))) (λ e. b (inr (inl e)))) (λ e. c (inr (inr (inr e))))) (λ e. b (inr (inr e)))))
 
 -- the twelve months make the year
 pub year-of-months : (y : ℕ) → 1 ≤ y → beforeMonth y 13 ≡ yearLength y

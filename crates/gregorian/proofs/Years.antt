@@ -1,10 +1,10 @@
 -- The Gregorian cycle: 400 years of 146097 days, over and over.
 -- Assumes nothing.
-use Prim.Native.Nat.{ℕ, zero, suc, _+_, _-_, _*_, _/_, _%_, _≤_}
+use Prim.Native.Nat.{ℕ, zero, suc, _+_, _-_, _*_, _/_, _%_, _≤_, _<_}
 use mathlib.Core.Path.{_≡_, refl, sym, _∙_, ap}
 use mathlib.Core.Bool.{Bool, true, false}
 use native.Mathlib.Omega.{arith}
-use native.Mathlib.Nat.{add-suc}
+use native.Mathlib.Nat.{add-suc, add-mul, mul-comm, mul-suc, mul-zero, one-mul, div-add-mod, div-eq-of-lt-le, lt-div-mul-add}
 use lib.Dec.{eqb}
 use borrow.Author.Tests.{eqb-true, eqb-false, ne-eqb}
 use Rattle.paper.specs.Outcome.{pick}
@@ -56,23 +56,20 @@ by-rule : (n : ℕ) (b c d : Bool) → eqb (suc n % 100) 0 ≡ b → eqb (suc n 
 unfolding yearLength leap
 by-rule n b c d p q r = rw (p, q, r)
 
-rises-4 : (n : ℕ) → suc n % 4 ≡ 0 → suc n / 4 ≡ suc (n / 4)
-rises-4 n h = omega arith
+-- a quotient rises where the divisor divides the next number, and stays else
+rises : (d n : ℕ) → 0 < d → suc n % d ≡ 0 → suc n / d ≡ suc (n / d)
+rises d n h e = by (suc n / d) refl
+  where
+    by : (q : ℕ) → suc n / d ≡ q → q ≡ suc (n / d)
+    by zero f = absurd (omega (arith, rw (e, f, mul-zero d) at (div-add-mod (suc n) d)))
+    by (suc k) f =
+        let p : d * k + d ≡ suc n = omega (arith, rw (e, f, mul-suc d k) at (div-add-mod (suc n) d)) in
+        ap suc (sym (div-eq-of-lt-le {k = k} d {m = n} (omega (arith, mul-comm d k)) (omega (arith, mul-comm d k, add-mul k 1 d, one-mul d))))
 
-stays-4 : (n : ℕ) → (suc n % 4 ≡ 0 → ⊥) → suc n / 4 ≡ n / 4
-stays-4 n h = omega arith
-
-rises-100 : (n : ℕ) → suc n % 100 ≡ 0 → suc n / 100 ≡ suc (n / 100)
-rises-100 n h = omega arith
-
-stays-100 : (n : ℕ) → (suc n % 100 ≡ 0 → ⊥) → suc n / 100 ≡ n / 100
-stays-100 n h = omega arith
-
-rises-400 : (n : ℕ) → suc n % 400 ≡ 0 → suc n / 400 ≡ suc (n / 400)
-rises-400 n h = omega arith
-
-stays-400 : (n : ℕ) → (suc n % 400 ≡ 0 → ⊥) → suc n / 400 ≡ n / 400
-stays-400 n h = omega arith
+stays : (d n : ℕ) → 0 < d → (suc n % d ≡ 0 → ⊥) → suc n / d ≡ n / d
+stays d n h e =
+    let q : ℕ = suc n / d in
+    sym (div-eq-of-lt-le {k = q} d {m = n} (omega (arith, div-add-mod (suc n) d, mul-comm d q, e)) (omega (arith, lt-div-mul-add {a = suc n} h, add-mul q 1 d, one-mul d)))
 
 -- the sum moves as its parts do
 moves : (x x' l a a' b b' c c' n : ℕ) → x + b ≡ 365 * n + a + c → x' ≡ x + l → l + b' + a + c ≡ 365 + b + a' + c' → x' + b' ≡ 365 * suc n + a' + c'
@@ -88,17 +85,17 @@ closed (suc n) =
   where
     by : (b c d : Bool) → eqb (suc n % 100) 0 ≡ b → eqb (suc n % 400) 0 ≡ c → eqb (suc n % 4) 0 ≡ d → yearLength (suc n) + suc n / 100 + n / 4 + n / 400 ≡ 365 + n / 100 + suc n / 4 + suc n / 400
     by true true true p q r =
-        rw (by-rule n true true true p q r, rises-100 n (eqb-true (suc n % 100) 0 p), rises-400 n (eqb-true (suc n % 400) 0 q), rises-4 n (eqb-true (suc n % 4) 0 r)) (omega arith)
+        rw (by-rule n true true true p q r, rises 100 n (omega arith) (eqb-true (suc n % 100) 0 p), rises 400 n (omega arith) (eqb-true (suc n % 400) 0 q), rises 4 n (omega arith) (eqb-true (suc n % 4) 0 r)) (omega arith)
     by true true false p q r = absurd (omega (arith, eqb-true (suc n % 100) 0 p, eqb-false (suc n % 4) 0 r))
     by true false true p q r =
-        rw (by-rule n true false true p q r, rises-100 n (eqb-true (suc n % 100) 0 p), stays-400 n (eqb-false (suc n % 400) 0 q), rises-4 n (eqb-true (suc n % 4) 0 r)) (omega arith)
+        rw (by-rule n true false true p q r, rises 100 n (omega arith) (eqb-true (suc n % 100) 0 p), stays 400 n (omega arith) (eqb-false (suc n % 400) 0 q), rises 4 n (omega arith) (eqb-true (suc n % 4) 0 r)) (omega arith)
     by true false false p q r = absurd (omega (arith, eqb-true (suc n % 100) 0 p, eqb-false (suc n % 4) 0 r))
     by false true true p q r = absurd (omega (arith, eqb-true (suc n % 400) 0 q, eqb-false (suc n % 100) 0 p))
     by false true false p q r = absurd (omega (arith, eqb-true (suc n % 400) 0 q, eqb-false (suc n % 100) 0 p))
     by false false true p q r =
-        rw (by-rule n false false true p q r, stays-100 n (eqb-false (suc n % 100) 0 p), stays-400 n (eqb-false (suc n % 400) 0 q), rises-4 n (eqb-true (suc n % 4) 0 r)) (omega arith)
+        rw (by-rule n false false true p q r, stays 100 n (omega arith) (eqb-false (suc n % 100) 0 p), stays 400 n (omega arith) (eqb-false (suc n % 400) 0 q), rises 4 n (omega arith) (eqb-true (suc n % 4) 0 r)) (omega arith)
     by false false false p q r =
-        rw (by-rule n false false false p q r, stays-100 n (eqb-false (suc n % 100) 0 p), stays-400 n (eqb-false (suc n % 400) 0 q), stays-4 n (eqb-false (suc n % 4) 0 r)) (omega arith)
+        rw (by-rule n false false false p q r, stays 100 n (omega arith) (eqb-false (suc n % 100) 0 p), stays 400 n (omega arith) (eqb-false (suc n % 400) 0 q), stays 4 n (omega arith) (eqb-false (suc n % 4) 0 r)) (omega arith)
 
 taken-off : (x n a b d : ℕ) → x + b ≡ 365 * n + a + d → b ≤ a → 365 * n + a - b + d ≡ x
 taken-off x n a b d p h = omega arith

@@ -5,12 +5,11 @@ use mathlib.Core.Path.{_≡_, refl, sym, ap, _∙_}
 use mathlib.Core.Bool.{true}
 use mathlib.Core.List.{List, [], _∷_}
 use native.Mathlib.Omega.{arith}
-use native.Mathlib.Numerals.{add-one}
 use native.Mathlib.Decide.{decLt}
 use lib.ListN.{length, getD, drop, drop-of-length-le}
 use lib.Dec.{ltb}
-use lib.Seq.{drop-cons}
 use borrow.Author.Tests.{lt-ltb, le-ltb, le-leb}
+use Rattle.paper.proofs.Lists.{head-at}
 use Rattle.paper.specs.Outcome.{pick}
 use Rattle.holidays.specs.Table.{ascendsFrom, ascending}
 use Rattle.holidays.specs.Search.{Splits}
@@ -24,7 +23,7 @@ below n (d ∷ ds) = pick (ltb d n) 1 0 + below n ds
 module _ (t : List ℕ) (n i b : ℕ) (e : b + below n (drop i t) ≡ below n t) where
   at-place : i < length t → b + (pick (ltb (getD t i 0) n) 1 0 + below n (drop (i + 1) t)) ≡ below n t
   unfolding below
-  at-place l = ap (λ (r : List ℕ). b + below n r) (sym (drop-cons t i 0 l ∙ ap (λ (k : ℕ). getD t i 0 ∷ drop k t) (sym (add-one i)))) ∙ e
+  at-place l = ap (λ (r : List ℕ). b + below n r) (sym (head-at t i 0 l)) ∙ e
 
   pub one-more : i < length t → getD t i 0 < n → b + 1 + below n (drop (i + 1) t) ≡ below n t
   one-more l h = omega (arith, rw (lt-ltb (getD t i 0) n h) at (at-place l))

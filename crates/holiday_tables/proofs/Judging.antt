@@ -5,12 +5,11 @@ use mathlib.Core.Path.{_≡_, refl, sym, ap, _∙_}
 use mathlib.Core.Bool.{Bool, true, false}
 use mathlib.Core.List.{List, _∷_}
 use native.Mathlib.Omega.{arith}
-use native.Mathlib.Numerals.{add-one}
 use native.Mathlib.Decide.{decLt}
 use lib.ListN.{length, getD, drop, drop-of-length-le}
 use lib.Dec.{leb}
-use lib.Seq.{drop-cons}
 use borrow.Author.Tests.{le-leb, lt-leb}
+use Rattle.paper.proofs.Lists.{head-at}
 use Rattle.paper.specs.Outcome.{both}
 use Rattle.holidays.specs.Table.{ascendsFrom, ascending}
 
@@ -28,7 +27,7 @@ both-all false = refl
 module _ (t : List ℕ) (good : Bool) (last i : ℕ) (e : ascending t ≡ both good (both (leb last 3652059) (ascendsFrom (last + 1) (drop i t)))) where
   at-place : i < length t → ascending t ≡ both good (both (leb last 3652059) (ascendsFrom (last + 1) (getD t i 0 ∷ drop (i + 1) t)))
   at-place l =
-      e ∙ ap (λ (r : List ℕ). both good (both (leb last 3652059) (ascendsFrom (last + 1) r))) (drop-cons t i 0 l ∙ ap (λ (n : ℕ). getD t i 0 ∷ drop n t) (sym (add-one i)))
+      e ∙ ap (λ (r : List ℕ). both good (both (leb last 3652059) (ascendsFrom (last + 1) r))) (head-at t i 0 l)
 
   pub not-later : i < length t → getD t i 0 ≤ last → ascending t ≡ false
   unfolding ascendsFrom

@@ -2,12 +2,13 @@
 -- Assumes nothing.
 use Prim.Native.Nat.{ℕ, zero, suc, _+_, _-_, _*_, _/_, _%_, _≤_, _<_}
 use mathlib.Core.Path.{_≡_, refl, sym, ap, _∙_}
-use mathlib.Core.Bool.{Bool, true, false, _||_, not}
+use mathlib.Core.Bool.{Bool, true, false, _||_, not, true≢false}
 use mathlib.Core.List.{List}
 use native.Mathlib.Omega.{arith}
 use native.Mathlib.Decide.{decLt}
 use lib.Dec.{leb}
 use borrow.Author.Tests.{le-leb, lt-leb}
+use Rattle.paper.proofs.Outcomes.{given-not-refused}
 use Rattle.paper.specs.Outcome.{Outcome, given, refused, andThen}
 use Rattle.calendar.specs.Answers.{weekdayOf}
 use Rattle.calendar.specs.declared.Day.{Day}
@@ -138,7 +139,7 @@ module _ (t : List ℕ) where
 
   first-gives : (l n : ℕ) (e : Day) → firstOf l t n ≡ given e → First l n (e .0)
   unfolding firstOf
-  first-gives zero n e g = let z : _≡_ {A = ℕ} 0 1 = cc in absurd (omega arith)
+  first-gives zero n e g = absurd (given-not-refused (sym g))
   first-gives (suc l) n e g = by (isBusiness t n) refl g (first-gives l (n + 1) e)
     where
       by : (b : Bool) → isBusiness t n ≡ b → choose b (on n) (firstOf l t (n + 1)) ≡ given e → (firstOf l t (n + 1) ≡ given e → First l (n + 1) (e .0)) → First (suc l) n (e .0)
@@ -156,13 +157,13 @@ module _ (t : List ℕ) where
   first-refuses (suc l) n m g = by (isBusiness t n) refl g (first-refuses l (n + 1) m)
     where
       by : (b : Bool) → isBusiness t n ≡ b → choose b (on n) (firstOf l t (n + 1)) ≡ refused m → (firstOf l t (n + 1) ≡ refused m → (m ≡ 1) × Shut t (n + 1) (n + 1 + l)) → (m ≡ 1) × Shut t n (n + suc l)
-      by true q f r = let z : _≡_ {A = ℕ} 0 1 = cc in absurd (omega arith)
+      by true q f r = absurd (given-not-refused f)
       by false q f r = (r f .0, shut-from n (n + suc l) q (λ x h k. r f .1 x h (omega arith)))
 
   -- of the days up to n
   last-gives : (n : ℕ) (e : Day) → lastOf t n ≡ given e → PrevDay t (n + 1) (e .0)
   unfolding lastOf
-  last-gives zero e g = let z : _≡_ {A = ℕ} 0 1 = cc in absurd (omega arith)
+  last-gives zero e g = absurd (given-not-refused (sym g))
   last-gives (suc n) e g = by (isBusiness t (suc n)) refl g (last-gives n e)
     where
       by : (b : Bool) → isBusiness t (suc n) ≡ b → choose b (on (suc n)) (lastOf t n) ≡ given e → (lastOf t n ≡ given e → PrevDay t (n + 1) (e .0)) → PrevDay t (suc n + 1) (e .0)
@@ -180,7 +181,7 @@ module _ (t : List ℕ) where
   last-refuses (suc n) m g = by (isBusiness t (suc n)) refl g (last-refuses n m)
     where
       by : (b : Bool) → isBusiness t (suc n) ≡ b → choose b (on (suc n)) (lastOf t n) ≡ refused m → (lastOf t n ≡ refused m → NoPrev t (n + 1) m) → NoPrev t (suc n + 1) m
-      by true q f r = let z : _≡_ {A = ℕ} 0 1 = cc in absurd (omega arith)
+      by true q f r = absurd (given-not-refused f)
       by false q f r = record { number = r f .number; none = shut-to 1 (suc n) q (λ x h k. r f .none x h (omega arith)) }
 
   pub next-gives : (n : ℕ) (e : Day) → nextFrom t n ≡ given e → NextDay t n (e .0)
@@ -208,7 +209,7 @@ module _ (t : List ℕ) where
       record { number = s .number; none = λ x h k. s .none x h (omega arith) }
 
   clash : (x : ℕ) → isBusiness t x ≡ true → isBusiness t x ≡ false → ⊥
-  clash x p q = let z : _≡_ {A = ℕ} 0 1 = cc in omega arith
+  clash x p q = true≢false (sym p ∙ q)
 
   -- there is one nearest day only
   pub next-found : (n e : ℕ) → NextDay t n e → nextFrom t n ≡ given (on e)

@@ -4,6 +4,7 @@ use Prim.Native.Nat.{ℕ, zero, suc, _+_, _-_, _<_}
 use mathlib.Core.Path.{_≡_, refl, sym, ap, _∙_}
 use native.Mathlib.Omega.{arith}
 use native.Mathlib.Numerals.{add-one}
+use Rattle.paper.proofs.Outcomes.{given-not-refused}
 use Rattle.paper.specs.Outcome.{Outcome, given, refused, andThen}
 use Rattle.calendar.specs.declared.Day.{Day}
 use Rattle.holidays.specs.Business.{on, repeated}
@@ -64,12 +65,12 @@ module _ (step : ℕ → Outcome Day) where
       where
         by : (o : Outcome Day) → step n ≡ o → andThen o (λ e. repeated step (suc k) (e .0)) ≡ given e → ((m : ℕ) → repeated step (suc k) m ≡ given e → R m (e .0)) → R n (e .0)
         by (given d) q f r = join n (d .0) (e .0) (one n d q) (r (d .0) f)
-        by (refused m) q f r = let z : _≡_ {A = ℕ} 0 1 = cc in absurd (omega arith)
+        by (refused m) q f r = absurd (given-not-refused (sym f))
 
   -- the steps are refused with 1 where each is
   pub all-refused : ((n m : ℕ) → step n ≡ refused m → m ≡ 1) → (k n m : ℕ) → repeated step k n ≡ refused m → m ≡ 1
   unfolding repeated
-  all-refused one zero n m g = let z : _≡_ {A = ℕ} 0 1 = cc in absurd (omega arith)
+  all-refused one zero n m g = absurd (given-not-refused g)
   all-refused one (suc k) n m g = by (step n) refl g (all-refused one k)
     where
       by : (o : Outcome Day) → step n ≡ o → andThen o (λ e. repeated step k (e .0)) ≡ refused m → ((n m : ℕ) → repeated step k n ≡ refused m → m ≡ 1) → m ≡ 1

@@ -1,8 +1,7 @@
 -- What later layers count on: a period from its own start is one whole period.
 -- Assumes nothing.
-use Prim.Native.Nat.{ℕ}
-use mathlib.Core.Path.{_≡_, refl, _∙_, ap}
-use mathlib.Core.Bool.{Bool, true, false}
+use mathlib.Core.Path.{_≡_, _∙_, ap}
+use mathlib.Core.Bool.{true, false, false≢true}
 use native.Mathlib.Omega.{arith}
 use lib.IntN.{pos}
 use lib.Signed.{ltZ}
@@ -10,40 +9,35 @@ use Rattle.paper.specs.Outcome.{Outcome, given, refused}
 use Rattle.calendar.specs.Dates.{isDate, isBefore}
 use Rattle.calendar.specs.declared.Date.{Date}
 use Rattle.calendar.proofs.Dates.{date-yes}
-use Rattle.calendar.proofs.Order.{before-days, days-before, same-yes}
+use Rattle.calendar.proofs.Order.{days-before, days-not-before, same-yes}
 use Rattle.time_period.specs.declared.TimePeriod.{TimePeriod}
 use Rattle.icma_walks.specs.Walks.{from}
 use Rattle.icma.specs.Walk.{step, negated, turnOn, walkOn, turnBack, walkBack, baseFrom, firstPart, lastPart, toLast, toEnd, toFirst, longParts, partsFrom, icmaParts}
 use Rattle.icma.specs.Leads.{leadsTo}
 use Rattle.icma.specs.declared.Broken.the-variants.{Nothing}
 use Rattle.icma.specs.declared.Parts.the-variants.{Long}
-use Rattle.icma_walks.proofs.Walking.{walk-there, walk-more}
-use Rattle.icma_walks.proofs.Laws.{not-later}
-use Rattle.icma.proofs.Steps.{step-later}
+use Rattle.paper.proofs.Walks.{walk-there, walk-more}
+use Rattle.time_period.proofs.Steps.{step-later}
 
 -- no date is before itself
 not-itself : (t : Date) → isDate t ≡ true → isBefore t t ≡ false
-not-itself t d = by (isBefore t t) refl
-  where
-    by : (b : Bool) → isBefore t t ≡ b → isBefore t t ≡ false
-    by true e = let l = before-days t t (date-yes t d) (date-yes t d) e in absurd (omega arith)
-    by false e = e
+not-itself t d = days-not-before t t (date-yes t d) (date-yes t d) (omega arith)
 
 -- a walk that is there at once
 on-stays : (p : TimePeriod) (limit t : Date) → isBefore t limit ≡ false → walkOn p limit t ≡ given (from t)
 unfolding walkOn
-on-stays p limit t h = walk-there (λ u. isBefore u limit) (turnOn p limit) 3652059 (from t) h
+on-stays p limit t h = walk-there (λ w. isBefore (w .at) limit) (turnOn p limit) 3652059 (from t) h
 
 back-stays : (q : TimePeriod) (limit t : Date) → isBefore limit t ≡ false → walkBack q limit t ≡ given (from t)
 unfolding walkBack
-back-stays q limit t h = walk-there (λ u. isBefore limit u) (turnBack q limit) 3652059 (from t) h
+back-stays q limit t h = walk-there (λ w. isBefore limit (w .at)) (turnBack q limit) 3652059 (from t) h
 
 -- and one that is there after a step
 on-steps : (p : TimePeriod) (t u : Date) → isBefore t u ≡ true → isBefore u u ≡ false → step p t ≡ given u → walkOn p u t ≡ given (record { at = u; count = 1 })
 unfolding walkOn turnOn
 on-steps p t u h k e =
-    walk-more (λ v. isBefore v u) (turnOn p u) 3652059 (from t) h
-    ∙ rw (e, k) (walk-there (λ v. isBefore v u) (turnOn p u) 3652058 (record { at = u; count = 1 }) k)
+    walk-more (λ w. isBefore (w .at) u) (turnOn p u) 3652059 (from t) h
+    ∙ rw (e, k) (walk-there (λ w. isBefore (w .at) u) (turnOn p u) 3652058 (record { at = u; count = 1 }) k)
 
 -- a period from its own start is exactly one period
 pub one-period : (p : TimePeriod) (start end : Date) → isDate start ≡ true → ltZ (pos 0) (p .num) ≡ true → step p start ≡ given end → icmaParts p start end start ≡ given (Long Nothing Nothing 1)
@@ -52,11 +46,11 @@ one-period p start end d h e =
     let l = step-later p start end d h e in
     let s = not-itself start d in
     let f = not-itself end (l .0) in
-    let g = not-later start end d (l .0) (l .1) in
+    let g = days-not-before end start (date-yes end (l .0)) (date-yes start d) (omega (arith, l .1)) in
     let b = days-before start end (date-yes start d) (date-yes end (l .0)) (l .1) in
     rw (on-stays p start start s, back-stays (negated p) end start g, s, back-stays (negated p) start start s, s, on-steps p start end b f e, f)
 
 -- a step that led to a date
 pub led : (o : Outcome Date) (t : Date) → leadsTo o t ≡ true → o ≡ given t
 led (given u) t e = ap given (same-yes u t e)
-led (refused n) t e = let z : _≡_ {A = ℕ} 0 1 = cc e in absurd (omega arith)
+led (refused n) t e = absurd (false≢true e)

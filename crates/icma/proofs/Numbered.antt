@@ -1,54 +1,37 @@
 -- A refusal of the walk has a number above 0.
 -- Assumes nothing.
-use Prim.Native.Nat.{ℕ, zero, suc, _+_, _-_}
 use mathlib.Core.Bool.{Bool, true, false}
 use native.Mathlib.Omega.{arith}
-use lib.IntN.{pos, _-ℤ_}
-use Rattle.paper.specs.Outcome.{Outcome, given, andThen, pick, Numbered}
-use Rattle.paper.proofs.Outcomes.{then-numbered}
-use Rattle.calendar.specs.Dates.{isBefore, dayNumber}
+use Rattle.paper.proofs.Walks.{walk-numbered}
+use Rattle.paper.specs.Outcome.{given, andThen, pick, Numbered}
+use Rattle.paper.proofs.Outcomes.{then-numbered, pick-numbered}
+use Rattle.calendar.specs.Dates.{isBefore}
 use Rattle.calendar.specs.declared.Date.{Date}
 use Rattle.time_period.specs.declared.TimePeriod.{TimePeriod}
 use Rattle.time_period.proofs.OneOutcome.{step-numbered}
 use Rattle.icma_walks.specs.Walks.{from}
-use Rattle.icma.specs.Walk.{step, negated, walk, turnOn, walkOn, turnBack, walkBack, baseFrom, shortParts, firstPart, lastPart, toLast, toEnd, toFirst, longParts, partsFrom, icmaParts}
-use Rattle.icma_walks.specs.declared.Walked.{Walked}
-use Rattle.icma.specs.declared.Broken.{Broken}
+use Rattle.icma.specs.Walk.{step, negated, turnOn, walkOn, turnBack, walkBack, baseFrom, shortParts, firstPart, lastPart, toLast, toEnd, toFirst, longParts, partsFrom, icmaParts}
 use Rattle.icma.specs.declared.Broken.the-variants.{Nothing}
 
 -- a step, and then a value of it
 stepped-numbered : {A : Type 0} (p : TimePeriod) (t : Date) (f : Date → A) → Numbered (andThen (step p t) (λ u. given (f u)))
 stepped-numbered p t f = then-numbered (step p t) (λ u. given (f u)) (step-numbered (p .unit) (p .num) t) (λ u. omega arith)
 
-walk-numbered : (k : ℕ) (more : Date → Bool) (turn : Walked → Outcome Walked) → ((w : Walked) → Numbered (turn w)) → (w : Walked) → Numbered (walk k more turn w)
-unfolding walk
-walk-numbered zero more turn h w = omega arith
-walk-numbered (suc k) more turn h w = by (more (w .at)) (then-numbered (turn w) (walk k more turn) (h w) (walk-numbered k more turn h))
-  where
-    by : (b : Bool) → Numbered (andThen (turn w) (walk k more turn)) → Numbered {A = Walked} (elim b [ true ↦ andThen (turn w) (walk k more turn) | false ↦ given w ])
-    by true n = n
-    by false n = omega arith
-
 on-numbered : (p : TimePeriod) (limit t : Date) → Numbered (walkOn p limit t)
 unfolding walkOn turnOn
-on-numbered p limit t = walk-numbered 3652060 (λ u. isBefore u limit) (turnOn p limit) (λ w. stepped-numbered p (w .at) _) (from t)
+on-numbered p limit t = walk-numbered (λ w. isBefore (w .at) limit) (turnOn p limit) (λ w. stepped-numbered p (w .at) _) 3652060 (from t)
 
 back-numbered : (q : TimePeriod) (limit t : Date) → Numbered (walkBack q limit t)
 unfolding walkBack turnBack
-back-numbered q limit t = walk-numbered 3652060 (λ u. isBefore limit u) (turnBack q limit) (λ w. stepped-numbered q (w .at) _) (from t)
-
--- a broken part, or none
-broken-numbered : (b : Bool) (o : Outcome Broken) → Numbered o → Numbered (pick b o (given Nothing))
-broken-numbered true o h = h
-broken-numbered false o h = omega arith
+back-numbered q limit t = walk-numbered (λ w. isBefore limit (w .at)) (turnBack q limit) (λ w. stepped-numbered q (w .at) _) 3652060 (from t)
 
 long-numbered : (p q : TimePeriod) (start end base : Date) → Numbered (longParts p q start end base)
 unfolding longParts toFirst firstPart toEnd toLast lastPart
 long-numbered p q start end base =
     then-numbered (walkBack q start base) (toFirst p q start end base) (back-numbered q start base)
-    (λ b. then-numbered (firstPart p start (b .at)) (toEnd p q end base (b .count)) (broken-numbered (isBefore (b .at) start) _ (stepped-numbered p (b .at) _))
+    (λ b. then-numbered (firstPart p start (b .at)) (toEnd p q end base (b .count)) (pick-numbered (isBefore (b .at) start) _ (given Nothing) (stepped-numbered p (b .at) _) (omega arith))
     (λ first. then-numbered (walkOn p end base) (toLast q end first (b .count)) (on-numbered p end base)
-    (λ e. then-numbered (lastPart q end (e .at)) _ (broken-numbered (isBefore end (e .at)) _ (stepped-numbered q (e .at) _)) (λ last. omega arith))))
+    (λ e. then-numbered (lastPart q end (e .at)) _ (pick-numbered (isBefore end (e .at)) _ (given Nothing) (stepped-numbered q (e .at) _) (omega arith)) (λ last. omega arith))))
 
 pub parts-numbered : (p : TimePeriod) (start end roll : Date) → Numbered (icmaParts p start end roll)
 unfolding icmaParts baseFrom partsFrom shortParts

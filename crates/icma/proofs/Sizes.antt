@@ -2,11 +2,11 @@
 -- Assumes nothing.
 use Prim.Native.Nat.{ℕ, zero, suc, _+_, _-_, _*_, _≤_, _<_}
 use mathlib.Core.Path.{_≡_, refl, sym, _∙_, ap, subst}
-use mathlib.Core.Bool.{Bool, true, false, cond}
+use mathlib.Core.Bool.{Bool, true, false, cond, true≢false}
 use native.Mathlib.Omega.{arith}
 use native.Mathlib.Nat.{mul-le-mul-left, mul-add, mul-zero}
 use lib.Dec.{ltb}
-use lib.IntN.{ℤ, pos, negsuc, negℤ, natAbs, _+ℤ_, _-ℤ_}
+use lib.IntN.{ℤ, pos, negsuc, negℤ, natAbs, _+ℤ_, _-ℤ_, pos-ne-negsuc}
 use lib.Signed.{ltZ}
 use borrow.Author.Tests.{ltb-true, ltb-false}
 use Rattle.paper.specs.Outcome.{given, andThen, pick}
@@ -32,7 +32,8 @@ use Rattle.gregorian.proofs.Months.{at-most}
 use Rattle.time_period.proofs.Steps.{months-step, years-step}
 use Rattle.time_period.proofs.Frequencies.{monthsIn}
 use Rattle.icma_walks.proofs.Walking.{LastTurn, none-made, made, last-turn, walk-keeps, walk-ends, ahead, behind, turn-on-leads, turn-back-leads, on-ends, back-ends}
-use Rattle.icma.proofs.Steps.{step-later, step-earlier, negated-below}
+use Rattle.time_period.proofs.Signs.{negative-back}
+use Rattle.time_period.proofs.Steps.{step-later, step-earlier}
 
 -- two dates of one month are at most 30 days apart
 same-month : (t u : Date) → IsDate t → IsDate u → monthIndex t ≡ monthIndex u → dayNumber t ≤ dayNumber u + 30
@@ -59,7 +60,7 @@ index-sub a b zero e = let q : a + 0 ≡ b = cc in omega arith
 index-sub a b (suc n) e = by (ltb a (suc n)) (ltb-true a (suc n)) (ltb-false a (suc n)) e
   where
     by : (c : Bool) → (c ≡ true → a < suc n) → (c ≡ false → suc n ≤ a) → cond c (negsuc (suc n - suc a)) (pos (a - suc n)) ≡ pos b → b + suc n ≡ a
-    by true h k e = let z : _≡_ {A = ℕ} 0 1 = cc e in absurd (omega arith)
+    by true h k e = absurd (pos-ne-negsuc b (suc n - suc a) (sym e))
     by false h k e = let q : a - suc n ≡ b = cc e in let l = k refl in omega arith
 
 years-index : (y z m : ℕ) (n : ℕ) → 1 ≤ y → y + n ≡ z → 12 * (y - 1) + m + 12 * n ≡ 12 * (z - 1) + m
@@ -108,7 +109,7 @@ module _ (p : TimePeriod) (n : ℕ) (is : p .num ≡ pos n) (some : 1 ≤ months
   back-index t v d e = unit-back (p .unit) n t v d some (ap (λ (z : ℤ). unitStep (p .unit) (negℤ z) absent t) (sym is) ∙ e)
 
   below : ltZ (negated p .num) (pos 0) ≡ true
-  below = negated-below (p .num) above
+  below = negative-back (p .num) above
 
   -- the date before the last of a walk
   before-on : (limit : Date) (x v : Walked) → turnOn p limit x ≡ given v → step p (x .at) ≡ given (v .at)
@@ -133,7 +134,7 @@ module _ (p : TimePeriod) (n : ℕ) (is : p .num ≡ pos n) (some : 1 ≤ months
       by (last-turn (λ u. isBefore limit u) (turnBack (negated p) limit) behind (turn-back-leads (negated p) limit below) 3652060 (from t) v d e)
     where
       by : LastTurn (λ u. isBefore limit u) (turnBack (negated p) limit) (from t) v → (x : Date) × (isDate x ≡ true) × (isBefore limit x ≡ true) × (step (negated p) x ≡ given (v .at))
-      by (none-made q) = let z : _≡_ {A = Bool} true false = sym k ∙ ap (λ (w : Walked). isBefore (w .at) limit) (sym q) ∙ h in let o : _≡_ {A = ℕ} 0 1 = cc z in absurd (omega arith)
+      by (none-made q) = absurd (true≢false (sym k ∙ ap (λ (w : Walked). isBefore (w .at) limit) (sym q) ∙ h))
       by (made x i j l) = (x .at, i, j, before-back limit x v l)
 
   -- a walk on that went past
@@ -144,7 +145,7 @@ module _ (p : TimePeriod) (n : ℕ) (is : p .num ≡ pos n) (some : 1 ≤ months
       by (last-turn (λ u. isBefore u limit) (turnOn p limit) ahead (turn-on-leads p limit above) 3652060 (from t) v d e)
     where
       by : LastTurn (λ u. isBefore u limit) (turnOn p limit) (from t) v → (x : Date) × (isDate x ≡ true) × (isBefore x limit ≡ true) × (step p x ≡ given (v .at))
-      by (none-made q) = let z : _≡_ {A = Bool} true false = sym k ∙ ap (λ (w : Walked). isBefore limit (w .at)) (sym q) ∙ h in let o : _≡_ {A = ℕ} 0 1 = cc z in absurd (omega arith)
+      by (none-made q) = absurd (true≢false (sym k ∙ ap (λ (w : Walked). isBefore limit (w .at)) (sym q) ∙ h))
       by (made x i j l) = (x .at, i, j, before-on limit x v l)
 
   first-size : (start base : Date) (b : Walked) (x : Broken) → isDate start ≡ true → isDate base ≡ true → isBefore base start ≡ false → walkBack (negated p) start base ≡ given b → firstPart p start (b .at) ≡ given x → BrokenSize x
@@ -206,7 +207,7 @@ module _ (p : TimePeriod) (n : ℕ) (is : p .num ≡ pos n) (some : 1 ≤ months
 
       by : {z : Walked} → LastTurn (λ u. isBefore end u) (turnBack (negated p) end) z b → (t : Date) → isBefore t start ≡ false → (u : Date) → isDate (b .at) ≡ true → isDate u ≡ true → dayNumber (b .at) < dayNumber u → step p (b .at) ≡ given u → dayNumber (b .at) < dayNumber start → z .at ≡ t
           → dayNumber end - dayNumber start ≤ dayNumber u - dayNumber (b .at) + 30
-      by (none-made q) t h u db du l g f z = let c : _≡_ {A = Bool} true false = sym k ∙ ap (λ (w : Walked). isBefore (w .at) start) (sym q) ∙ ap (λ (d : Date). isBefore d start) z ∙ h in let o : _≡_ {A = ℕ} 0 1 = cc c in absurd (omega arith)
+      by (none-made q) t h u db du l g f z = absurd (true≢false (sym k ∙ ap (λ (w : Walked). isBefore (w .at) start) (sym q) ∙ ap (λ (d : Date). isBefore d start) z ∙ h))
       by (made y i j m) t h u db du l g f z =
           let v = before-back end y b m in
           let x : monthIndex (y .at) ≡ monthIndex u = sym (back-index (y .at) (b .at) i v) ∙ on-index (b .at) u db g in

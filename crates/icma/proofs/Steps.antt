@@ -1,42 +1,25 @@
 -- One step on or back, the signs of the two periods, and where the walks from the roll date end.
 -- Assumes nothing.
-use Prim.Native.Nat.{ℕ, zero, suc, _^_, _<_}
-use mathlib.Core.Path.{_≡_, refl, sym, _∙_, ap, subst}
-use mathlib.Core.Bool.{true}
+use Prim.Native.Nat.{_^_, _<_}
+use mathlib.Core.Path.{_≡_, sym, _∙_, ap, subst}
+use mathlib.Core.Bool.{true, false≢true}
 use native.Mathlib.Omega.{arith}
-use lib.IntN.{ℤ, pos, negsuc, negℤ, _-ℤ_}
+use lib.IntN.{ℤ, pos, negsuc, _-ℤ_}
 use lib.Signed.{ltZ}
 use mir.Syntax.{w32}
 use mir.Val.{SFits, toZ, ofZ}
 use mir.Facts.{toZ-ofZ}
-use borrow.Author.Tests.{ltb-true}
 use Rattle.paper.specs.Outcome.{given}
 use Rattle.paper.proofs.Outcomes.{then-given}
 use Rattle.rounding.proofs.Gap.{gap-fits, gap-is}
 use Rattle.calendar.specs.Dates.{isDate, dayNumber}
 use Rattle.calendar.specs.declared.Date.{Date}
-use Rattle.calendar.proofs.Dates.{date-yes, date-is, number-to}
-use Rattle.time_period.specs.Steps.{absent}
+use Rattle.calendar.proofs.Dates.{date-yes, number-to}
 use Rattle.time_period.specs.declared.TimePeriod.{TimePeriod}
-use Rattle.time_period.proofs.Steps.{step-leads}
+use Rattle.time_period.proofs.Signs.{negative-back}
 use Rattle.icma_walks.specs.declared.Walked.{Walked}
 use Rattle.icma_walks.proofs.Walking.{on-ends, back-ends}
-use Rattle.icma.specs.Walk.{step, negated, walkOn, walkBack, baseFrom}
-
--- one step: a date of the calendar, later by a period and earlier by the negated one
-pub step-later : (p : TimePeriod) (t u : Date) → isDate t ≡ true → ltZ (pos 0) (p .num) ≡ true → step p t ≡ given u → (isDate u ≡ true) × (dayNumber t < dayNumber u)
-step-later p t u d h e = let s = step-leads p absent t u d e in (date-is u (s .dated), s .later h)
-
-pub step-earlier : (q : TimePeriod) (t u : Date) → isDate t ≡ true → ltZ (q .num) (pos 0) ≡ true → step q t ≡ given u → (isDate u ≡ true) × (dayNumber u < dayNumber t)
-step-earlier q t u d h e =
-    let s = step-leads q absent t u d e in
-    (date-is u (s .dated), s .earlier h)
-
--- a number above zero, negated, is below
-pub negated-below : (n : ℤ) → ltZ (pos 0) n ≡ true → ltZ (negℤ n) (pos 0) ≡ true
-negated-below (pos zero) h = absurd (omega (arith, ltb-true 0 0 h))
-negated-below (pos (suc n)) h = refl
-negated-below (negsuc n) h = let x : _≡_ {A = ℕ} 0 1 = cc h in absurd (omega arith)
+use Rattle.icma.specs.Walk.{negated, walkOn, walkBack, baseFrom}
 
 -- the difference of two dates' serial days is kept whole in 32 bits
 pub gap-kept : (t u : Date) (z : ℤ) → isDate t ≡ true → isDate u ≡ true → z ≡ pos (dayNumber t) -ℤ pos (dayNumber u) → toZ w32 (ofZ w32 z) ≡ pos (dayNumber t) -ℤ pos (dayNumber u)
@@ -49,7 +32,7 @@ gap-kept t u z d e q =
 -- a number above zero is not the least
 pub not-the-least : (z : ℤ) → SFits w32 z → ltZ (pos 0) z ≡ true → ofZ w32 z ≡ 2147483648 → ⊥
 not-the-least (pos n) f h e = omega (arith, f .sfits)
-not-the-least (negsuc n) f h e = let x : _≡_ {A = ℕ} 0 1 = cc h in omega arith
+not-the-least (negsuc n) f h e = false≢true h
 
 -- the base is a date of the calendar
 pub base-ends : (p : TimePeriod) (start end roll : Date) (w : Walked) → isDate roll ≡ true → ltZ (pos 0) (p .num) ≡ true → baseFrom p (negated p) start end roll ≡ given w → isDate (w .at) ≡ true
@@ -57,4 +40,4 @@ unfolding baseFrom
 base-ends p start end roll w d h e =
     let g = then-given (walkOn p start roll) (λ a. walkBack (negated p) end (a .at)) w e in
     let a = on-ends p start roll (g .0) d h (g .1) in
-    back-ends (negated p) end (g .0 .at) w (a .0 .dated) (negated-below (p .num) h) (g .2) .0 .dated
+    back-ends (negated p) end (g .0 .at) w (a .0 .dated) (negative-back (p .num) h) (g .2) .0 .dated

@@ -1,14 +1,13 @@
 -- Act/Act ICMA walks from the roll date: the whole periods and the broken parts between start and end. The walks are those of `icma_walks`.
 -- Assumes nothing.
 use Prim.Native.Nat.{ℕ, _+_, _-_}
-use mathlib.Core.Bool.{true, false}
 use lib.IntN.{pos, negℤ, _-ℤ_}
 use Rattle.paper.specs.Outcome.{Outcome, given, refused, andThen, pick}
 use Rattle.calendar.specs.Dates.{isBefore, dayNumber}
 use Rattle.calendar.specs.declared.Date.{Date}
 use Rattle.time_period.specs.declared.TimePeriod.{TimePeriod}
-unfoldable pub use Rattle.icma_walks.specs.Walks.{walk, turnOn, walkOn, turnBack, walkBack, baseFrom}
-pub use Rattle.icma_walks.specs.Walks.{step}
+unfoldable pub use Rattle.icma_walks.specs.Walks.{turnOn, walkOn, turnBack, walkBack, baseFrom}
+pub use Rattle.icma_walks.specs.Walks.{step, walk}
 use Rattle.icma_walks.specs.declared.Walked.{Walked}
 use Rattle.icma.specs.declared.Broken.{Broken}
 use Rattle.icma.specs.declared.Broken.the-variants.{Nothing, Part}

@@ -1,27 +1,19 @@
 -- What later layers count on: a later date is not before an earlier one, and steps that do not clip add up.
 -- Assumes nothing.
-use Prim.Native.Nat.{ℕ, zero, suc, _+_, _*_, _/_, _%_, _≤_, _<_}
+use Prim.Native.Nat.{ℕ, zero, suc, _+_, _*_, _/_, _%_, _≤_}
 use mathlib.Core.Path.{_≡_, refl, _∙_, ap₂}
-use mathlib.Core.Bool.{Bool, true, false}
+use mathlib.Core.Bool.{true}
 use native.Mathlib.Omega.{arith}
 use native.Mathlib.Nat.{suc-mul}
 use lib.IntN.{ℤ, pos, _+ℤ_}
 use Rattle.paper.specs.Outcome.{Outcome, given, andThen}
 use Rattle.gregorian.proofs.Months.{at-least}
-use Rattle.calendar.specs.Dates.{isDate, isBefore, dayNumber, monthIndex, monthDate}
+use Rattle.calendar.specs.Dates.{isDate, monthIndex, monthDate}
 use Rattle.calendar.specs.declared.Date.{Date}
 use Rattle.calendar.proofs.Dates.{date-yes, date-is}
-use Rattle.calendar.proofs.Order.{before-days, month-date}
+use Rattle.calendar.proofs.Order.{month-date}
 use Rattle.date_step.specs.Steps.{monthsLater}
 use Rattle.date_step.proofs.Steps.{lands-at}
-
--- a later date is not before an earlier one
-pub not-later : (t u : Date) → isDate t ≡ true → isDate u ≡ true → dayNumber t < dayNumber u → isBefore u t ≡ false
-not-later t u d e l = by (isBefore u t) refl
-  where
-    by : (b : Bool) → isBefore u t ≡ b → isBefore u t ≡ false
-    by true q = let k = before-days u t (date-yes u e) (date-yes t d) q in absurd (omega arith)
-    by false q = q
 
 -- k steps, one after another
 pub steps : ℕ → (Date → Outcome Date) → Date → Outcome Date

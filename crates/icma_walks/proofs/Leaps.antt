@@ -2,7 +2,7 @@
 -- Assumes nothing.
 use Prim.Native.Nat.{ℕ, zero, suc, _+_, _-_, _*_, _/_, _%_, _≤_, _<_}
 use mathlib.Core.Path.{_≡_, refl, sym, _∙_, ap, ap₂}
-use mathlib.Core.Bool.{Bool, true, false}
+use mathlib.Core.Bool.{Bool, true, false, false≢true}
 use native.Mathlib.Omega.{arith}
 use native.Mathlib.Nat.{le-trans, suc-mul, mul-le-mul-right, div-mul-le-self}
 use lib.Dec.{leb}
@@ -13,8 +13,8 @@ use Rattle.paper.specs.Outcome.{Outcome, given, pick}
 use Rattle.paper.proofs.Outcomes.{both-true}
 use Rattle.calendar.specs.Dates.{isDate, isBefore, monthIndex, monthDate}
 use Rattle.calendar.specs.declared.Date.{Date}
-use Rattle.calendar.proofs.Dates.{date-yes, date-is, number-to}
-use Rattle.calendar.proofs.Order.{month-date, month-order, index-to, days-before}
+use Rattle.calendar.proofs.Dates.{date-yes, number-to}
+use Rattle.calendar.proofs.Order.{month-date, month-order, index-to, days-before, days-not-before}
 use Rattle.date_step.specs.Steps.{monthsLater}
 use Rattle.time_period.specs.Steps.{absent, unitStep}
 use Rattle.time_period.specs.declared.TimePeriod.{TimePeriod}
@@ -23,8 +23,9 @@ use Rattle.time_period.specs.declared.TimePeriodUnit.the-variants.{Daily, Busin
 use Rattle.icma_walks.specs.Walks.{step, walk, from, turnOn, turnBack}
 use Rattle.icma_walks.specs.Leaps.{isMonths, isUncut, leapOn, leapBack}
 use Rattle.icma_walks.specs.declared.Walked.{Walked}
-use Rattle.icma_walks.proofs.Walking.{Turned, ahead, ahead-is, behind, behind-is, turn-on-leads, turn-back-leads, walk-turn}
-use Rattle.icma_walks.proofs.Laws.{uncut, months-to, not-later}
+use Rattle.time_period.proofs.Signs.{above}
+use Rattle.icma_walks.proofs.Walking.{Turned, ahead, ahead-is, behind, behind-is, turn-on-leads, turn-back-leads, walk-on-turn}
+use Rattle.icma_walks.proofs.Laws.{uncut, months-to}
 
 -- a walk that stands at w is the walk from t, and has counted no more than the days it passed
 pub record OnTheWay (more : Date → Bool) (turn : Walked → Outcome Walked) (φ : Date → ℕ) (t : Date) (w : Walked) : Type 0 where
@@ -53,7 +54,7 @@ module _ (more : Date → Bool) (turn : Walked → Outcome Walked) (φ : Date �
       record {
         dated = v .dated;
         counted = omega (arith, v .nearer, v .counted, r .counted);
-        same = walk-turn more turn φ leads 3652060 (s k) (s (suc k)) (r .dated) (near (s k .at) (r .dated)) (q .0) (q .1) ∙ r .same;
+        same = walk-on-turn more turn φ leads 3652060 (s k) (s (suc k)) (r .dated) (near (s k .at) (r .dated)) (q .0) (q .1) ∙ r .same;
       }
 
 -- the month and the day of a date make it
@@ -70,11 +71,11 @@ months-step : (p : TimePeriod) (t : Date) (i : ℕ) → isMonths (p .unit) ≡ t
 months-step p t i u q l = by (p .unit) u ∙ months-to t (p .num) i q l
   where
     by : (u : TimePeriodUnit) → isMonths u ≡ true → unitStep u (p .num) absent t ≡ monthsLater t (p .num)
-    by Daily h = let o : _≡_ {A = ℕ} 0 1 = cc h in absurd (omega arith)
-    by BusinessDaily h = let o : _≡_ {A = ℕ} 0 1 = cc h in absurd (omega arith)
-    by Weekly h = let o : _≡_ {A = ℕ} 0 1 = cc h in absurd (omega arith)
+    by Daily h = absurd (false≢true h)
+    by BusinessDaily h = absurd (false≢true h)
+    by Weekly h = absurd (false≢true h)
     by Monthly h = refl
-    by Annual h = let o : _≡_ {A = ℕ} 0 1 = cc h in absurd (omega arith)
+    by Annual h = absurd (false≢true h)
 
 -- between two months of one day that no month cuts
 uncut-step : (p : TimePeriod) (i j d : ℕ) → isMonths (p .unit) ≡ true → 1 ≤ d → d ≤ 28 → i ≤ 119987 → j ≤ 119987 → pos i +ℤ p .num ≡ pos j → step p (monthDate i d) ≡ given (monthDate j d)
@@ -87,28 +88,16 @@ in-order i d t f h l =
     let k = date-yes t h in
     let s = month-date i d f (omega (arith, index-to t k)) in
     let o = month-order (monthDate i d) t (s .dated) k (omega (arith, s .index)) in
-    (days-before (monthDate i d) t (s .dated) k o, not-later (monthDate i d) t (date-is (monthDate i d) (s .dated)) h o)
+    (days-before (monthDate i d) t (s .dated) k o, days-not-before t (monthDate i d) k (s .dated) (omega arith))
 
 in-order-back : (i d : ℕ) (t : Date) → 1 ≤ d → i ≤ 119987 → isDate t ≡ true → monthIndex t < i → (isBefore t (monthDate i d) ≡ true) × (isBefore (monthDate i d) t ≡ false)
 in-order-back i d t f m h l =
     let k = date-yes t h in
     let s = month-date i d f m in
     let o = month-order t (monthDate i d) k (s .dated) (omega (arith, s .index)) in
-    (days-before t (monthDate i d) k (s .dated) o, not-later t (monthDate i d) h (date-is (monthDate i d) (s .dated)) o)
+    (days-before t (monthDate i d) k (s .dated) o, days-not-before (monthDate i d) t (s .dated) k (omega arith))
 
--- a number above zero, and one below
-above : (z : ℤ) → ltZ (pos 0) z ≡ true → z ≡ pos (natAbs z)
-above (pos n) h = refl
-above (negsuc n) h = let o : _≡_ {A = ℕ} 0 1 = cc h in absurd (omega arith)
-
-pub some-above : (z : ℤ) → ltZ (pos 0) z ≡ true → 1 ≤ natAbs z
-some-above (pos n) h = ltb-true 0 n h
-some-above (negsuc n) h = omega arith
-
-pub some-below : (z : ℤ) → ltZ z (pos 0) ≡ true → 1 ≤ natAbs z
-some-below (pos n) h = absurd (omega (arith, ltb-true n 0 h))
-some-below (negsuc n) h = omega arith
-
+-- a number below zero, added
 taken-off : (z : ℤ) (a b : ℕ) → ltZ z (pos 0) ≡ true → b + natAbs z ≡ a → pos a +ℤ z ≡ pos b
 taken-off (pos n) a b h e = absurd (omega (arith, ltb-true n 0 h))
 taken-off (negsuc n) a b h e = rw (le-ltb a (suc n) (omega arith)) (ap pos (omega arith))
@@ -163,7 +152,7 @@ module _ (p : TimePeriod) (limit t : Date) (d : isDate t ≡ true) (dl : isDate 
         let i = monthIndex t + j * n in
         let m = index-to limit (date-yes limit dl) in
         let e : i + n ≡ monthIndex t + suc j * n = omega (arith, suc-mul j n) in
-        let s = uncut-step p i (i + n) (t .day) u from-1 low (omega arith) (omega arith) (ap (λ (z : ℤ). pos i +ℤ z) (above (p .num) sign)) in
+        let s = uncut-step p i (i + n) (t .day) u from-1 low (omega arith) (omega arith) (ap (λ (z : ℤ). pos i +ℤ z) (above (p .num) sign .0)) in
         let b = in-order i (t .day) limit from-1 dl (omega arith) in
         let c = in-order (i + n) (t .day) limit from-1 dl (omega arith) in
         (b .0, rw (s, c .1) (ap₂ {C = Outcome Walked} (λ (x y : ℕ). given (record { at = monthDate x (t .day); count = y })) e (omega arith)))

@@ -1,13 +1,14 @@
 -- A walk ends: each turn leads nearer to an end of the calendar, so the steps allowed are never used up.
 -- Assumes nothing.
-use Prim.Native.Nat.{ℕ, zero, suc, _+_, _-_, _≤_, _<_}
+use Prim.Native.Nat.{ℕ, _+_, _-_, _≤_, _<_}
 use mathlib.Core.Path.{_≡_, refl, sym, _∙_, ap}
 use mathlib.Core.Bool.{Bool, true, false}
 use native.Mathlib.Omega.{arith}
 use lib.IntN.{pos}
 use lib.Signed.{ltZ}
-use Rattle.paper.specs.Outcome.{Outcome, given, refused, andThen, pick}
-use Rattle.paper.proofs.Outcomes.{given-injective, given-not-refused, then-given}
+use Rattle.paper.proofs.Walks.{walk-turn, walk-all}
+use Rattle.paper.specs.Outcome.{Outcome, given, pick}
+use Rattle.paper.proofs.Outcomes.{given-injective, then-given}
 use Rattle.calendar.specs.Dates.{isDate, isBefore, dayNumber}
 use Rattle.calendar.specs.declared.Date.{Date}
 use Rattle.calendar.proofs.Dates.{date-yes, date-is, number-to}
@@ -29,63 +30,18 @@ pub record Ended (φ : Date → ℕ) (more : Date → Bool) (w v : Walked) : Typ
   pub there : more (v .at) ≡ false
   pub counted : v .count + φ (v .at) ≤ w .count + φ (w .at)
 
-module _ (more : Date → Bool) (turn : Walked → Outcome Walked) where
-  pub walk-more : (k : ℕ) (w : Walked) → more (w .at) ≡ true → walk (suc k) more turn w ≡ andThen (turn w) (walk k more turn)
-  unfolding walk
-  walk-more k w h = ap (λ (b : Bool). elim b as (λ x. Outcome Walked) [ true ↦ andThen (turn w) (walk k more turn) | false ↦ given w ]) h
+module _ (more : Date → Bool) (turn : Walked → Outcome Walked) (φ : Date → ℕ) (leads : (w v : Walked) → isDate (w .at) ≡ true → turn w ≡ given v → Turned φ w v) where
+  -- a turn leaves the same walk to be made
+  pub walk-on-turn : (k : ℕ) (w v : Walked) → isDate (w .at) ≡ true → φ (w .at) < k → more (w .at) ≡ true → turn w ≡ given v → walk k more turn v ≡ walk k more turn w
+  walk-on-turn =
+      walk-turn (λ w. more (w .at)) turn (λ w. isDate (w .at) ≡ true) (λ w. φ (w .at))
+      (λ w v d h e. let t = leads w v d e in (t .dated, t .nearer))
 
-  pub walk-there : (k : ℕ) (w : Walked) → more (w .at) ≡ false → walk (suc k) more turn w ≡ given w
-  unfolding walk
-  walk-there k w h = ap (λ (b : Bool). elim b as (λ x. Outcome Walked) [ true ↦ andThen (turn w) (walk k more turn) | false ↦ given w ]) h
-
-  module _ (φ : Date → ℕ) (leads : (w v : Walked) → isDate (w .at) ≡ true → turn w ≡ given v → Turned φ w v) where
-    -- with steps enough, how many are allowed does not matter
-    pub enough : (j k : ℕ) (w : Walked) → isDate (w .at) ≡ true → φ (w .at) < j → φ (w .at) < k → walk j more turn w ≡ walk k more turn w
-    enough zero k w d h l = absurd (omega arith)
-    enough (suc j) zero w d h l = absurd (omega arith)
-    enough (suc j) (suc k) w d h l = by (more (w .at)) refl (turn w) refl (λ v e. enough j k v)
-      where
-        by : (b : Bool) → more (w .at) ≡ b → (o : Outcome Walked) → turn w ≡ o → ((v : Walked) → turn w ≡ given v → isDate (v .at) ≡ true → φ (v .at) < j → φ (v .at) < k → walk j more turn v ≡ walk k more turn v) → walk (suc j) more turn w ≡ walk (suc k) more turn w
-        by false e o q r = walk-there j w e ∙ sym (walk-there k w e)
-        by true e (refused n) q r =
-            walk-more j w e ∙ ap (λ (x : Outcome Walked). andThen x (walk j more turn)) q
-            ∙ sym (walk-more k w e ∙ ap (λ (x : Outcome Walked). andThen x (walk k more turn)) q)
-        by true e (given v) q r =
-            let t = leads w v d q in
-            walk-more j w e ∙ ap (λ (x : Outcome Walked). andThen x (walk j more turn)) q
-            ∙ r v q (t .dated) (omega (arith, t .nearer)) (omega (arith, t .nearer))
-            ∙ sym (walk-more k w e ∙ ap (λ (x : Outcome Walked). andThen x (walk k more turn)) q)
-
-    -- a turn leaves the same walk to be made
-    pub walk-turn : (k : ℕ) (w v : Walked) → isDate (w .at) ≡ true → φ (w .at) < k → more (w .at) ≡ true → turn w ≡ given v → walk k more turn v ≡ walk k more turn w
-    walk-turn zero w v d h e q = absurd (omega arith)
-    walk-turn (suc k) w v d h e q =
-        let t = leads w v d q in
-        enough (suc k) k v (t .dated) (omega (arith, t .nearer)) (omega (arith, t .nearer))
-        ∙ sym (walk-more k w e ∙ ap (λ (x : Outcome Walked). andThen x (walk k more turn)) q)
-
-    pub walk-refused : (k n : ℕ) (w : Walked) → φ (w .at) < k → more (w .at) ≡ true → turn w ≡ refused n → refused n ≡ walk k more turn w
-    walk-refused zero n w h e q = absurd (omega arith)
-    walk-refused (suc k) n w h e q = sym (walk-more k w e ∙ ap (λ (x : Outcome Walked). andThen x (walk k more turn)) q)
-
-    pub walk-done : (k : ℕ) (w : Walked) → φ (w .at) < k → more (w .at) ≡ false → given w ≡ walk k more turn w
-    walk-done zero w h e = absurd (omega arith)
-    walk-done (suc k) w h e = sym (walk-there k w e)
-
-    pub walk-ends : (k : ℕ) (w v : Walked) → isDate (w .at) ≡ true → walk k more turn w ≡ given v → Ended φ more w v
-    unfolding walk
-    walk-ends zero w v d e = absurd (given-not-refused (sym e))
-    walk-ends (suc k) w v d e = by (more (w .at)) refl (walk-ends k)
-      where
-        by : (b : Bool) → more (w .at) ≡ b → ((x y : Walked) → isDate (x .at) ≡ true → walk k more turn x ≡ given y → Ended φ more x y) → Ended φ more w v
-        by false h r =
-            let q : w ≡ v = given-injective (sym (walk-there k w h) ∙ e) in
-            record { dated = ap (λ (x : Walked). isDate (x .at)) (sym q) ∙ d; there = ap (λ (x : Walked). more (x .at)) (sym q) ∙ h; counted = rw q (omega arith) }
-        by true h r =
-            let g = then-given (turn w) (walk k more turn) v (sym (walk-more k w h) ∙ e) in
-            let t = leads w (g .0) d (g .1) in
-            let s = r (g .0) v (t .dated) (g .2) in
-            record { dated = s .dated; there = s .there; counted = omega (arith, s .counted, t .nearer, t .counted) }
+  pub walk-ends : (k : ℕ) (w v : Walked) → isDate (w .at) ≡ true → walk k more turn w ≡ given v → Ended φ more w v
+  walk-ends =
+      walk-all (λ w. more (w .at)) turn (λ w. isDate (w .at) ≡ true) (Ended φ more)
+      (λ w d h. record { dated = d; there = h; counted = omega arith })
+      (λ w x v d h e. let t = leads w x d e in (t .dated, λ s. record { dated = s .dated; there = s .there; counted = omega (arith, s .counted, t .nearer, t .counted) }))
 
 -- one turn of each walk
 picked-more : (b : Bool) (n : ℕ) → pick b n (n + 1) ≤ n + 1
@@ -148,29 +104,18 @@ pub data LastTurn (more : Date → Bool) (turn : Walked → Outcome Walked) (w v
   made : (x : Walked) → isDate (x .at) ≡ true → more (x .at) ≡ true → turn x ≡ given v → LastTurn more turn w v
 
 pub last-turn : (more : Date → Bool) (turn : Walked → Outcome Walked) (φ : Date → ℕ) → ((w v : Walked) → isDate (w .at) ≡ true → turn w ≡ given v → Turned φ w v) → (k : ℕ) (w v : Walked) → isDate (w .at) ≡ true → walk k more turn w ≡ given v → LastTurn more turn w v
-unfolding walk
-last-turn more turn φ leads zero w v d e = absurd (given-not-refused (sym e))
-last-turn more turn φ leads (suc k) w v d e = by (more (w .at)) refl (last-turn more turn φ leads k)
+last-turn more turn φ leads =
+    walk-all (λ w. more (w .at)) turn (λ w. isDate (w .at) ≡ true) (LastTurn more turn)
+    (λ w d h. none-made refl)
+    (λ w x v d h e. (leads w x d e .dated, on w x v d h e))
   where
-    on : (x : Walked) → turn w ≡ given x → more (w .at) ≡ true → LastTurn more turn x v → LastTurn more turn w v
-    on x t h (none-made q) = made w d h (t ∙ ap given q)
-    on x t h (made y i j l) = made y i j l
-
-    by : (b : Bool) → more (w .at) ≡ b → ((x y : Walked) → isDate (x .at) ≡ true → walk k more turn x ≡ given y → LastTurn more turn x y) → LastTurn more turn w v
-    by false h r = none-made (given-injective (sym (walk-there more turn k w h) ∙ e))
-    by true h r =
-        let g = then-given (turn w) (walk k more turn) v (sym (walk-more more turn k w h) ∙ e) in
-        on (g .0) (g .1) h (r (g .0) v (leads w (g .0) d (g .1) .dated) (g .2))
+    on : (w x v : Walked) → isDate (w .at) ≡ true → more (w .at) ≡ true → turn w ≡ given x → LastTurn more turn x v → LastTurn more turn w v
+    on w x v d h t (none-made q) = made w d h (t ∙ ap given q)
+    on w x v d h t (made y i j l) = made y i j l
 
 -- what a walk adds up: where each turn keeps m times the count and ψ from rising together, so does the walk
 pub walk-keeps : (more : Date → Bool) (turn : Walked → Outcome Walked) (ψ : Walked → ℕ) → ((w v : Walked) → isDate (w .at) ≡ true → turn w ≡ given v → (isDate (v .at) ≡ true) × (ψ v ≤ ψ w)) → (k : ℕ) (w v : Walked) → isDate (w .at) ≡ true → walk k more turn w ≡ given v → ψ v ≤ ψ w
-unfolding walk
-walk-keeps more turn ψ keeps zero w v d e = absurd (given-not-refused (sym e))
-walk-keeps more turn ψ keeps (suc k) w v d e = by (more (w .at)) refl (walk-keeps more turn ψ keeps k)
-  where
-    by : (b : Bool) → more (w .at) ≡ b → ((x y : Walked) → isDate (x .at) ≡ true → walk k more turn x ≡ given y → ψ y ≤ ψ x) → ψ v ≤ ψ w
-    by false h r = let q : w ≡ v = given-injective (sym (walk-there more turn k w h) ∙ e) in rw q (omega arith)
-    by true h r =
-        let g = then-given (turn w) (walk k more turn) v (sym (walk-more more turn k w h) ∙ e) in
-        let s = keeps w (g .0) d (g .1) in
-        omega (arith, s .1, r (g .0) v (s .0) (g .2))
+walk-keeps more turn ψ keeps =
+    walk-all (λ w. more (w .at)) turn (λ w. isDate (w .at) ≡ true) (λ w v. ψ v ≤ ψ w)
+    (λ w d h. omega arith)
+    (λ w x v d h e. let s = keeps w x d e in (s .0, λ l. omega (arith, s .1)))

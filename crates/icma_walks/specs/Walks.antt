@@ -1,8 +1,9 @@
 -- A walk by a period: from a date on, or back, step by step to a limit, counting the dates it reaches.
 -- Assumes nothing.
-use Prim.Native.Nat.{ℕ, zero, suc, _+_}
-use mathlib.Core.Bool.{Bool, true, false}
+use Prim.Native.Nat.{ℕ, _+_}
+use mathlib.Core.Bool.{Bool}
 use Rattle.paper.specs.Outcome.{Outcome, given, refused, andThen, pick}
+use Rattle.paper.specs.Walks.{walked}
 use Rattle.calendar.specs.Dates.{isBefore}
 use Rattle.calendar.specs.declared.Date.{Date}
 use Rattle.time_period.specs.Steps.{stepped, absent}
@@ -21,9 +22,8 @@ abbrev pub step : TimePeriod → Date → Outcome Date
 step p t = stepped p absent t
 
 -- a walk goes on while there is more to go; the calendar has no more than 3652060 steps
-unfoldable pub walk : ℕ → (Date → Bool) → (Walked → Outcome Walked) → Walked → Outcome Walked
-walk zero more turn w = refused 1
-walk (suc k) more turn w = elim (more (w .at)) [ true ↦ andThen (turn w) (walk k more turn) | false ↦ given w ]
+abbrev pub walk : ℕ → (Date → Bool) → (Walked → Outcome Walked) → Walked → Outcome Walked
+walk k more turn = walked k (λ w. more (w .at)) turn
 
 abbrev pub from : Date → Walked
 from t = record { at = t; count = 0 }

@@ -4,14 +4,14 @@ use Prim.Native.Nat.{ℕ, zero, suc, _+_, _≤_, _<_}
 use mathlib.Core.Path.{_≡_, refl, sym, _∙_, ap, ap₂, subst}
 use mathlib.Core.Bool.{Bool}
 use mathlib.Core.Logic.{_⊎_, ⊎-elim}
-use mathlib.Core.List.{List, [], _∷_, _++_, map}
+use mathlib.Core.List.{List, [], _∷_, map}
 use native.Mathlib.Omega.{arith}
-use native.Mathlib.Numerals.{add-one}
 use lib.ListN.{length, take, drop, getD, length-map}
-use lib.Seq.{drop-cons, drop-drop, take-append-seam}
+use lib.Seq.{drop-drop, take-at}
 use lib.Ieee.{Float, nan}
 use denote.Enum.Declared.{tagOf, declared}
-use Rattle.paper.specs.Outcome.{Outcome, given, refused, andThen}
+use Rattle.paper.proofs.Lists.{head-at, every-at}
+use Rattle.paper.specs.Outcome.{Outcome, given, refused}
 use Rattle.paper.proofs.Outcomes.{given-injective, given-not-refused}
 use Rattle.room.specs.Room.{fitting, counted, roomAfter}
 use Rattle.calendar.specs.Dates.{theDate}
@@ -29,35 +29,26 @@ use Rattle.coupon_dues.specs.declared.Due.{Due}
 use Rattle.note_flows.specs.declared.Step.{Step}
 use Rattle.note_flows.specs.declared.Step.the-variants.{Pay, Stop, End}
 use Rattle.note_flows.proofs.Step as S
-use Rattle.note_flows.proofs.Flows.{followed-given, judged-note, Every, OfNote, flows-of}
-use Rattle.note_flows.proofs.Judging.{all-flows, fits, short, stopped}
+use Rattle.note_flows.proofs.Flows.{followed-given, judged-note, OfNote, flows-of}
+use Rattle.note_flows.proofs.Judging.{all-flows, all-stopped, all-short, all-fit, flows-refused}
 use Rattle.kept_flows.specs.Steps.{KeptAll, Coming, Came}
 
 -- ---- the first pass
 
 module _ (n : Note) (position : Float) (table : List ℕ) (places : ℕ) where
   module _ (j : Judged n position table) where
-    of-flows : (o : Outcome (List CashFlow)) → fitting places (noteFlows n position table) ≡ o → fitting places (cashFlows n position table) ≡ o
-    of-flows o e = ap (fitting places) (all-flows n position table j) ∙ e
-
     pub within-stopped : (k : ℕ) → refused k ≡ counted (noteFlows n position table) → refused k ≡ counted (fitting places (cashFlows n position table))
-    within-stopped k c = sym (ap counted (of-flows (refused k) (stopped (noteFlows n position table) k places (sym c))))
+    within-stopped k c = sym (ap counted (all-stopped n position table j k places c))
 
     pub within-short : (m : ℕ) → given m ≡ counted (noteFlows n position table) → places < m → refused 16 ≡ counted (fitting places (cashFlows n position table))
-    within-short m c h = sym (ap counted (of-flows (refused 16) (short (noteFlows n position table) m places (sym c) h)))
+    within-short m c h = sym (ap counted (all-short n position table j m places c h))
 
     pub within-fits : (m : ℕ) → given m ≡ counted (noteFlows n position table) → m ≤ places → given m ≡ counted (fitting places (cashFlows n position table))
-    within-fits m c h = c ∙ sym (ap counted (of-flows (noteFlows n position table) (fits (noteFlows n position table) m places (sym c) h)))
+    within-fits m c h = c ∙ sym (ap counted (all-fit n position table j m places c h))
 
   -- the note's refusals
   pub note-refused : (p t : Bool) (k : ℕ) → p ≡ isPosition position → t ≡ isTable table → noteChecks p t n ≡ refused k → refused k ≡ counted (fitting places (cashFlows n position table))
-  unfolding cashFlows
-  note-refused p t k a b e =
-      sym (ap (λ (o : Outcome Note). counted (fitting places (andThen o (λ m. noteFlows m position table)))) (ap₂ (λ (x y : Bool). noteChecks x y n) (sym a) (sym b) ∙ e))
-
-  pub flows-refused : (p t : Bool) (k : ℕ) → p ≡ isPosition position → t ≡ isTable table → noteChecks p t n ≡ refused k → cashFlows n position table ≡ refused k
-  unfolding cashFlows
-  flows-refused p t k a b e = ap (λ (o : Outcome Note). andThen o (λ m. noteFlows m position table)) (ap₂ (λ (x y : Bool). noteChecks x y n) (sym a) (sym b) ∙ e)
+  note-refused p t k a b e = sym (ap (λ (o : Outcome (List CashFlow)). counted (fitting places o)) (flows-refused n position table p t k a b e))
 
   -- what the first pass keeps
   pub none-kept : (days : List ℕ) (amounts : List Float) (k : ℕ) → cashFlows n position table ≡ refused k → KeptAll n position table days amounts
@@ -69,13 +60,10 @@ module _ (n : Note) (position : Float) (table : List ℕ) (j : Judged n position
     hold = λ l g h.
         let e : noteFlows n position table ≡ given l = sym (all-flows n position table j) ∙ g in
         let q = k .hold (length l) (ap counted e) (omega (arith, ld)) (omega (arith, la)) in (
-          ap (take (length l)) (q .0 ∙ ap (λ (o : Outcome (List CashFlow)). roomAfter dayOf o days) e) ∙ in-front dayOf l (drop (length l) days),
-          ap (take (length l)) (q .1 ∙ ap (λ (o : Outcome (List CashFlow)). roomAfter amountOf o amounts) e) ∙ in-front amountOf l (drop (length l) amounts),
+          ap (take (length l)) (q .0 ∙ ap (λ (o : Outcome (List CashFlow)). roomAfter dayOf o days) e) ∙ take-at (map dayOf l) (drop (length l) days) (length l) (length-map l dayOf),
+          ap (take (length l)) (q .1 ∙ ap (λ (o : Outcome (List CashFlow)). roomAfter amountOf o amounts) e) ∙ take-at (map amountOf l) (drop (length l) amounts) (length l) (length-map l amountOf),
         );
   }
-    where
-      in-front : {B : Type 0} (part : CashFlow → B) (l : List CashFlow) (r : List B) → take (length l) (map part l ++ r) ≡ map part l
-      in-front part l r = subst (λ (m : ℕ). take m (map part l ++ r) ≡ map part l) (length-map l part) (take-append-seam (map part l) r)
 
 -- ---- a flow of the second pass
 
@@ -85,12 +73,6 @@ element part [] kept k d e q h = absurd (omega arith)
 element part (x ∷ l) [] k d e q h = let z : 0 ≡ suc (length (map part l)) = ap length q in absurd (omega arith)
 element part (x ∷ l) (y ∷ kept) zero d e q h = ap (λ (m : List _). getD m 0 e) q
 element part (x ∷ l) (y ∷ kept) (suc k) d e q h = element part l kept k d e (ap (drop 1) q) (omega arith)
-
--- a record of a list, where every record has it
-every-at : {A : Type 0} (P : A → Type 0) (l : List A) (k : ℕ) (d : A) → Every P l → k < length l → P (getD l k d)
-every-at P [] k d a h = absurd (omega arith)
-every-at P (x ∷ l) zero d a h = a .0
-every-at P (x ∷ l) (suc k) d a h = every-at P l k d (a .1) (omega arith)
 
 -- any record
 any : CashFlow
@@ -137,7 +119,7 @@ module _ (n : Note) (position : Float) (table days : List ℕ) (amounts : List F
     came-kept x e = record {
       flow = λ l g.
           let q : c .flows ≡ l = given-injective (sym (c .are) ∙ g) in
-          subst (λ (m : List CashFlow). drop k m ≡ x ∷ drop (k + 1) m) q (drop-cons (c .flows) k any inside ∙ ap₂ (λ (y : CashFlow) (j : ℕ). y ∷ drop j (c .flows)) (sym (e ∙ same)) (sym (add-one k)));
+          subst (λ (m : List CashFlow). drop k m ≡ x ∷ drop (k + 1) m) q (head-at (c .flows) k any inside ∙ ap (λ (y : CashFlow). y ∷ drop (k + 1) (c .flows)) (sym (e ∙ same)));
       due = λ l g m. absurd (omega arith);
       same = λ _. refl;
     }
@@ -152,8 +134,7 @@ module _ (n : Note) (position : Float) (table days : List ℕ) (amounts : List F
     must-pay (Stop j) t e = given-not-refused (sym (c .next f .1) ∙ t)
     must-pay End t e =
         let z : drop k (c .flows) ≡ [] = given-injective (sym (c .next f .1) ∙ t) in
-        let y : getD (c .flows) k any ∷ drop (suc k) (c .flows) ≡ [] = sym (drop-cons (c .flows) k any inside) ∙ z in
-        let w : suc (length (drop (suc k) (c .flows))) ≡ 0 = ap length y in
+        let w : suc (length (drop (k + 1) (c .flows))) ≡ 0 = ap length (sym (head-at (c .flows) k any inside) ∙ z) in
         omega arith
 
     pub came-due : (x : CashFlow) (next : Due) → Pays n position table due x next → Came n position table count k due x next

@@ -8,6 +8,7 @@ use native.Mathlib.Omega.{arith}
 use lib.Ieee.{Float, nan}
 use lib.Dec.{leb, ltb}
 use lib.ListN.{length, getD, take, drop, set}
+use Rattle.paper.proofs.Lists.{head-at}
 use Rattle.paper.specs.Outcome.{Outcome, given, unless, pick, both}
 use Rattle.room.specs.Room.{fitting, counted}
 use Rattle.calendar.specs.Dates.{isDay}
@@ -15,7 +16,7 @@ use Rattle.calendar.specs.declared.Day.{Day}
 use Rattle.listed_flows.specs.Listed.{Listed, listed, isDayNumber, isLaterDay, listedAfter, shortest, daysWritten, listedWritten, ListedContents}
 use Rattle.fixed_income.specs.After.{laterOf, allOf, after}
 use Rattle.fixed_income.specs.Promises.{isRefused}
-use Rattle.fixed_income.proofs.Later.{head-at, Passed, passed-none, passed-yes, passed-no, passed-fits, Column, column-none, column-yes, column-no, column-all, kept, unrefused}
+use Rattle.fixed_income.proofs.Later.{Passed, passed-none, passed-yes, passed-no, passed-fits, Column, column-none, column-yes, column-no, column-all, kept, unrefused}
 
 pub listed-length : (ds cs : List ℕ) (xs : List Float) → length (listed ds cs xs) ≡ shortest (length ds) (length cs) (length xs)
 unfolding listed

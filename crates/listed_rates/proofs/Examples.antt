@@ -1,5 +1,4 @@
 -- Lists at their edges, as theorems about the definitions: each computes. Assumes nothing.
-use Prim.Native.Nat.{ℕ}
 use mathlib.Core.Path.{_≡_, refl}
 use mathlib.Core.Bool.{false}
 use mathlib.Core.List.{[], _∷_}
@@ -8,7 +7,6 @@ use lib.Ieee.{Float, fin, add, mul, div, lt, eq, le, ofInt}
 use Rattle.paper.specs.Outcome.{given, refused}
 use Rattle.gregorian.specs.Gregorian.{leap, lengthIn, monthLength, yearLength, before}
 use Rattle.calendar.specs.Dates.{isDate, isDay, isBefore, isSame, dayNumber}
-use Rattle.calendar.specs.declared.Date.{Date}
 use Rattle.cash_amount.specs.Amounts.{isCapital, isCurrency, isSameCurrency}
 use Rattle.cash_amount.specs.declared.Currency.{Currency}
 use Rattle.day_fraction.specs.Fractions.{exactFraction, bits, impossible}
@@ -20,9 +18,7 @@ use Rattle.rates.specs.declared.FlatRate.{FlatRate}
 use Rattle.calendar.specs.Answers.{dateOf}
 use Rattle.cash_flow.specs.Flows.{dateOn}
 use Rattle.listed_rates.specs.Listed.{currencyAt, flowAt, flowsFrom, flowsOf}
-
-abbrev on : ℕ → ℕ → ℕ → Date
-on y m d = record { year = y; month = m; day = d }
+use Rattle.calendar.proofs.Examples.{on}
 
 abbrev eur : Currency
 eur = record { first = 69; second = 85; third = 82 }

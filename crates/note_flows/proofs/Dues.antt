@@ -13,7 +13,8 @@ use Rattle.time_period.specs.Steps.{absent, stepped}
 use Rattle.day_fraction.specs.Fractions.{Span}
 use Rattle.bond.specs.Notes.{firstCouponEnd, nominalOf}
 use Rattle.bond.specs.declared.Note.{Note}
-use Rattle.bond.proofs.Ends.{Accepted, first-end-later, next-end-later}
+use Rattle.time_period.proofs.Steps.{step-later}
+use Rattle.bond.proofs.Ends.{Accepted, first-end-later}
 use Rattle.note_flows.specs.NoteFlows.{paid, couponFlow}
 use Rattle.coupon_dues.specs.Dues.{Dated, couponTo, comingOf, couponFraction, Spanned, owedFor, owedOf}
 use Rattle.note_flows.specs.Turns.{stepOf, Turned}
@@ -35,7 +36,7 @@ module _ (n : Note) (a : Accepted n) where
 
   next-span : (t next : Date) → isDate t ≡ true → stepped (n .period) absent t ≡ given next → Span t next
   next-span t next d e =
-      let l = next-end-later n t next a d e in
+      let l = step-later (n .period) t next d (a .period) e in
       record { first = d; last = l .0; order = omega (arith, l .1) }
 
   pub spanned : (due : Due) → Dated due → Spanned n (comingOf n due)

@@ -8,6 +8,7 @@ use native.Mathlib.Omega.{arith}
 use lib.Dec.{leb}
 use lib.ListN.{length}
 use lib.Ieee.{Float}
+use Rattle.paper.specs.Lists.{Every}
 use Rattle.paper.specs.Outcome.{Outcome, given, refused, andThen}
 use Rattle.paper.proofs.Outcomes.{both-true, given-injective, given-not-refused, then-given}
 use Rattle.calendar.specs.Dates.{isDate, isBefore, dayNumber}
@@ -25,7 +26,8 @@ use Rattle.day_count_conv.proofs.Judged.{span-fraction, roll-dated}
 use Rattle.cash_flow.specs.declared.CashFlow.{CashFlow}
 use Rattle.bond.specs.Notes.{isPosition, firstCouponEnd, nominalOf, couponAmount}
 use Rattle.bond.specs.declared.Note.{Note}
-use Rattle.bond.proofs.Ends.{Accepted, passed, first-end-later, next-end-later}
+use Rattle.time_period.proofs.Steps.{step-later}
+use Rattle.bond.proofs.Ends.{Accepted, passed, first-end-later}
 use Rattle.note_flows.specs.NoteFlows.{paid, couponFlow, followed, flowsAfter, noteFlows}
 use Rattle.coupon_dues.specs.Dues.{Dated}
 use Rattle.note_flows.specs.Turns.{Judged, stepOf, flowsDue, most, Turned}
@@ -109,7 +111,7 @@ module _ (n : Note) (position : Float) (table : List ℕ) where
         by false e o q r = after-last j t e ∙ sym (after-last k t e)
         by true e (refused m) q r = after-next j t (refused m) e q ∙ sym (after-next k t (refused m) e q)
         by true e (given u) q r =
-            let s = next-end-later n t u a d q in
+            let s = step-later (n .period) t u d (a .period) q in
             let m = number-to u (date-yes u (s .0)) in
             after-next j t (given u) e q
             ∙ ap (followed (couponFlow n position table t u t)) (r u (s .0) (omega (arith, s .1)) (omega (arith, s .1)))
@@ -144,7 +146,7 @@ module _ (n : Note) (position : Float) (table : List ℕ) where
       pub next-pays : (u : Date) (r : Step) → isBefore t (n .maturity) ≡ true → stepped (n .period) absent t ≡ given u → r ≡ stepOf (couponFlow n position table t u t) (After u) → Turned n position table (After t) r
       unfolding nextFlows
       next-pays u r b e q =
-          let s = next-end-later n t u a d e in
+          let s = step-later (n .period) t u d (a .period) e in
           let m = number-to u (date-yes u (s .0)) in
           let f = number-from t (date-yes t d) in
           turned-by (After t) (After u) (couponFlow n position table t u t) r
@@ -164,10 +166,6 @@ module _ (n : Note) (position : Float) (table : List ℕ) where
           (q ∙ ap (λ (y : Float). stepOf (paid n table (n .maturity) y) Nothing) e)
 
 -- ---- what every flow has, and how many there are at most
-
-abbrev pub Every : {A : Type 0} → (A → Type 0) → List A → Type 0
-Every P [] = 0 < 1
-Every P (x ∷ l) = P x × Every P l
 
 -- a date of the calendar, and the note's currency
 abbrev pub OfNote : Note → CashFlow → Type 0
@@ -205,7 +203,7 @@ module _ (n : Note) (position : Float) (table : List ℕ) (a : Accepted n) where
       by : (b : Bool) → isBefore t (n .maturity) ≡ b → ((u : Date) (m : List CashFlow) → isDate u ≡ true → flowsAfter k n position table u ≡ given m → Every (OfNote n) m × (length m ≤ k)) → Every (OfNote n) l × (length l ≤ suc k)
       by true h r =
           let g = then-given (stepped (n .period) absent t) (λ u. followed (couponFlow n position table t u t) (flowsAfter k n position table u)) l (sym (after-next n position table k t (stepped (n .period) absent t) h refl) ∙ e) in
-          let s = next-end-later n t (g .0) a d (g .1) in
+          let s = step-later (n .period) t (g .0) d (a .period) (g .1) in
           let f = followed-given (couponFlow n position table t (g .0) t) (flowsAfter k n position table (g .0)) l (g .2) in
           in-front n (f .0) (f .1) l k (coupon-of t (g .0) t (f .0) (s .0) (f .2)) (r (g .0) (f .1) (s .0) (f .3)) (f .4)
       by false h r =

@@ -1,17 +1,13 @@
 -- What a pass over a judged note found is the answer, and last 16.
 -- Assumes nothing.
 use Prim.Native.Nat.{ℕ, _≤_, _<_}
-use mathlib.Core.Path.{_≡_, refl, sym, _∙_, ap, ap₂}
+use mathlib.Core.Path.{_≡_, sym, _∙_, ap, ap₂}
 use mathlib.Core.Bool.{Bool}
 use mathlib.Core.List.{List}
-use native.Mathlib.Omega.{arith}
-use lib.ListN.{length}
 use lib.Ieee.{Float}
-use borrow.Author.Tests.{le-leb, lt-leb}
-use Rattle.paper.specs.Outcome.{Outcome, given, refused}
-use Rattle.paper.proofs.Outcomes.{given-injective, given-not-refused}
+use Rattle.paper.specs.Outcome.{Outcome, given, refused, andThen}
 use Rattle.room.specs.Room.{fitting, counted}
-use Rattle.cash_flow.specs.declared.CashFlow.{CashFlow}
+use Rattle.room.proofs.Fitting.{fits, short, stopped}
 use Rattle.holidays.specs.Table.{isTable}
 use Rattle.bond.specs.Notes.{isPosition, noteChecks}
 use Rattle.bond.specs.declared.Note.{Note}
@@ -19,25 +15,30 @@ use Rattle.bond.proofs.Ends.{passed}
 use Rattle.note_flows.specs.NoteFlows.{noteFlows, cashFlows}
 use Rattle.note_flows.specs.Turns.{Judged}
 
--- what was judged is what is rolled out
-pub all-flows : (n : Note) (position : Float) (table : List ℕ) → Judged n position table → cashFlows n position table ≡ noteFlows n position table
-unfolding cashFlows
-all-flows n position table h = rw h
+module _ (n : Note) (position : Float) (table : List ℕ) where
+  module _ (j : Judged n position table) where
+    -- what was judged is what is rolled out
+    pub all-flows : cashFlows n position table ≡ noteFlows n position table
+    unfolding cashFlows
+    all-flows = rw j
 
--- the three ways that a count and the places for it can meet
-pub fits : (o : Outcome (List CashFlow)) (m places : ℕ) → counted o ≡ given m → m ≤ places → fitting places o ≡ o
-fits (given l) m places c h = rw (le-leb (length l) places (omega (arith, given-injective c)))
-fits (refused j) m places c h = refl
+    -- and it meets the places as its count does
+    pub all-stopped : (k places : ℕ) → refused k ≡ counted (noteFlows n position table) → fitting places (cashFlows n position table) ≡ refused k
+    all-stopped k places c = ap (fitting places) all-flows ∙ stopped (noteFlows n position table) k places (sym c)
 
-pub short : (o : Outcome (List CashFlow)) (m places : ℕ) → counted o ≡ given m → places < m → fitting places o ≡ refused 16
-short (given l) m places c h = rw (lt-leb (length l) places (omega (arith, given-injective c)))
-short (refused j) m places c h = absurd (given-not-refused (sym c))
+    pub all-short : (m places : ℕ) → given m ≡ counted (noteFlows n position table) → places < m → fitting places (cashFlows n position table) ≡ refused 16
+    all-short m places c h = ap (fitting places) all-flows ∙ short (noteFlows n position table) m places (sym c) h
 
-pub stopped : (o : Outcome (List CashFlow)) (j places : ℕ) → counted o ≡ refused j → fitting places o ≡ refused j
-stopped (given l) j places c = absurd (given-not-refused c)
-stopped (refused k) j places c = let q : k ≡ j = cc in ap refused q
+    pub all-fit : (m places : ℕ) → given m ≡ counted (noteFlows n position table) → m ≤ places → fitting places (cashFlows n position table) ≡ noteFlows n position table
+    all-fit m places c h = ap (fitting places) all-flows ∙ fits (noteFlows n position table) m places (sym c) h
 
--- the checks give the note that was judged
-pub judged-by : (n : Note) (position : Float) (table : List ℕ) (p t : Bool) (m : Note) → p ≡ isPosition position → t ≡ isTable table → noteChecks p t n ≡ given m → Judged n position table
-judged-by n position table p t m a b e =
-    ap₂ (λ (x y : Bool). noteChecks x y n) (sym a) (sym b) ∙ e ∙ ap given (sym (passed p t n m e .itself))
+  -- what the checks answer decides: a refusal, or the note that was judged
+  checks-are : (p t : Bool) → p ≡ isPosition position → t ≡ isTable table → noteChecks (isPosition position) (isTable table) n ≡ noteChecks p t n
+  checks-are p t a b = ap₂ (λ (x y : Bool). noteChecks x y n) (sym a) (sym b)
+
+  pub flows-refused : (p t : Bool) (k : ℕ) → p ≡ isPosition position → t ≡ isTable table → noteChecks p t n ≡ refused k → cashFlows n position table ≡ refused k
+  unfolding cashFlows
+  flows-refused p t k a b e = ap (λ (o : Outcome Note). andThen o (λ m. noteFlows m position table)) (checks-are p t a b ∙ e)
+
+  pub judged-by : (p t : Bool) (m : Note) → p ≡ isPosition position → t ≡ isTable table → noteChecks p t n ≡ given m → Judged n position table
+  judged-by p t m a b e = checks-are p t a b ∙ e ∙ ap given (sym (passed p t n m e .itself))

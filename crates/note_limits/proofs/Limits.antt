@@ -2,16 +2,17 @@
 -- Assumes nothing.
 use Prim.Native.Nat.{ℕ, zero, suc, _+_, _/_, _%_, _^_, _<_, _≤_}
 use mathlib.Core.Path.{_≡_, refl, sym, ap, _∙_, subst}
-use mathlib.Core.Bool.{Bool, true, false, not, cond}
+use mathlib.Core.Bool.{Bool, true, false, cond}
 use mathlib.Core.Logic.{_⊎_, inl, inr, ⊎-elim}
 use native.Mathlib.Omega.{arith}
 use lib.Dec.{T, leb, eqb}
 use lib.IntN.{ℤ, pos}
-use lib.Ieee.{Float, nan, inf, fin, binary64, odd, ofFields, ofBits, toBits, ofInt, fits, isNan, ne, le}
+use lib.Ieee.{Float, nan, inf, fin, binary64, odd, ofFields, ofBits, toBits, ofInt, fits, ne, le}
 use lib.Ieee.Bits.{ofBits-toBits, toBits-lt}
 use lib.Ieee.Compare.{differs-from-itself}
 use borrow.Author.Tests.{le-leb, lt-leb, ne-eqb}
-use Rattle.cash_amount.proofs.Limits.{le-or-lt, plus-most}
+use Rattle.paper.proofs.Numbers.{lt-or-le, next-up}
+use Rattle.cash_amount.proofs.Limits.{plus-most}
 use Rattle.note_limits.specs.Limits.{isNoteNumber, isRate}
 use Rattle.note_limits.specs.declared.NoteNumber.{NoteNumber}
 
@@ -50,11 +51,11 @@ plain (suc x) t h = rw (ne-eqb (suc x) 2047 (λ e. omega arith)) (odd-signed 53 
 -- from these bits on the sign bit is set or the number is not finite; below them it is finite and its sign bit is clear
 pub high-bits : (b : ℕ) → 9218868437227405312 ≤ b → b < 2 ^ 64 → isRate (ofBits binary64 b) ≡ false
 unfolding ofBits
-high-bits b h l = by (le-or-lt 9223372036854775808 b)
+high-bits b h l = by (lt-or-le b 9223372036854775808)
   where
-    by : (9223372036854775808 ≤ b) ⊎ (b < 9223372036854775808) → isRate (ofBits binary64 b) ≡ false
-    by (inl k) = rw (le-leb 9223372036854775808 b k) (negative (b % 9223372036854775808 / 4503599627370496) (b % 4503599627370496))
-    by (inr k) =
+    by : (b < 9223372036854775808) ⊎ (9223372036854775808 ≤ b) → isRate (ofBits binary64 b) ≡ false
+    by (inr k) = rw (le-leb 9223372036854775808 b k) (negative (b % 9223372036854775808 / 4503599627370496) (b % 4503599627370496))
+    by (inl k) =
         let e : b % 9223372036854775808 / 4503599627370496 ≡ 2047 = omega arith in
         rw e (not-finite (leb 9223372036854775808 b) (b % 4503599627370496))
 
@@ -75,13 +76,7 @@ hundred m e = rw hundred-is (plus-most 25 100 (pos 2) refl refl m e)
 pub low-rate : (b : ℕ) → b < 9218868437227405312 → le (ofBits binary64 b) (ofBits binary64 4636737291354636288) ≡ isRate (ofBits binary64 b)
 low-rate b h = let z = low-bits b h in rw (z .2) (hundred (z .0) (z .1))
 
--- a number equal to itself is no NaN, and any other is no rate
-pub not-nan : (x : Float) → ne x x ≡ false → T (not (isNan x))
-unfolding ne isNan
-not-nan nan e = subst T e tt
-not-nan (inf s) e = tt
-not-nan (fin s m d) e = tt
-
+-- a number that differs from itself is no rate
 pub nan-no-rate : (x : Float) → ne x x ≡ true → false ≡ isRate x
 unfolding isRate
 nan-no-rate x e = rw (differs-from-itself x (subst T (sym e) tt))
@@ -97,12 +92,9 @@ rate-low x f h =
 
 -- ---- a note's number
 
-above : (k n : ℕ) → k ≤ n → (n ≡ k → ⊥) → suc k ≤ n
-above k n h q = omega arith
-
 -- a count that is none of 1 to 10 is no number's
 pub none-to-ten : (n : ℕ) → (n ≡ 1 → ⊥) → (n ≡ 2 → ⊥) → (n ≡ 3 → ⊥) → (n ≡ 4 → ⊥) → (n ≡ 5 → ⊥) → (n ≡ 6 → ⊥) → (n ≡ 7 → ⊥) → (n ≡ 8 → ⊥) → (n ≡ 9 → ⊥) → (n ≡ 10 → ⊥) → (n < 1) ⊎ (10 < n)
-none-to-ten n q1 q2 q3 q4 q5 q6 q7 q8 q9 q10 = ⊎-elim (λ h. inr (above 10 n (above 9 n (above 8 n (above 7 n (above 6 n (above 5 n (above 4 n (above 3 n (above 2 n (above 1 n h q1) q2) q3) q4) q5) q6) q7) q8) q9) q10)) (λ l. inl l) (le-or-lt 1 n)
+none-to-ten n q1 q2 q3 q4 q5 q6 q7 q8 q9 q10 = ⊎-elim (λ l. inl l) (λ h. inr (next-up 10 n (next-up 9 n (next-up 8 n (next-up 7 n (next-up 6 n (next-up 5 n (next-up 4 n (next-up 3 n (next-up 2 n (next-up 1 n h q1) q2) q3) q4) q5) q6) q7) q8) q9) q10)) (lt-or-le n 1)
 
 pub no-count : (n : NoteNumber) → (n .count < 1) ⊎ (10 < n .count) → false ≡ isNoteNumber n
 unfolding isNoteNumber

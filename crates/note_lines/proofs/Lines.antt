@@ -4,13 +4,12 @@ use Prim.Native.Nat.{ℕ, _+_, _≤_, _<_}
 use mathlib.Core.Path.{_≡_, refl, sym, ap, subst, _∙_}
 use mathlib.Core.Bool.{true}
 use mathlib.Core.List.{List, [], _∷_, _++_}
-use native.Mathlib.Numerals.{add-one}
 use native.Mathlib.Omega.{arith}
 use lib.Dec.{T}
 use lib.Ieee.{Float, nan, binary64, fits}
 use lib.Ieee.Scale.{finite}
 use lib.ListN.{length, drop, getD, length-append, drop-of-length-le}
-use lib.Seq.{drop-cons}
+use Rattle.paper.proofs.Lists.{head-at}
 use Rattle.paper.specs.Outcome.{Outcome, given, refused, andThen}
 use Rattle.paper.proofs.Outcomes.{given-injective, refused-injective, given-not-refused, unless-given, then-given}
 use Rattle.text.specs.Writing.{put, Wrote, Written}
@@ -72,9 +71,7 @@ line-takes-none f n e = rw (line-refused f n (then-refused (flowShown f) length 
 -- the next flow of two lists
 pub flows-next : (c : Currency) (ds : List ℕ) (xs : List Float) (i : ℕ) → i < length ds → i < length xs → flowsIn c (drop i ds) (drop i xs) ≡ flowOn c (getD ds i 0) (getD xs i nan) ∷ flowsIn c (drop (i + 1) ds) (drop (i + 1) xs)
 flows-next c ds xs i h k =
-    let d : drop i ds ≡ getD ds i 0 ∷ drop (i + 1) ds = drop-cons ds i 0 h ∙ ap (λ (j : ℕ). getD ds i 0 ∷ drop j ds) (sym (add-one i)) in
-    let x : drop i xs ≡ getD xs i nan ∷ drop (i + 1) xs = drop-cons xs i nan k ∙ ap (λ (j : ℕ). getD xs i nan ∷ drop j xs) (sym (add-one i)) in
-    rw (d, x)
+    rw (head-at ds i 0 h, head-at xs i nan k)
 
 pub flows-none : (c : Currency) (ds : List ℕ) (xs : List Float) (i : ℕ) → length ds ≤ i → flowsIn c (drop i ds) (drop i xs) ≡ []
 flows-none c ds xs i h = let e : drop i ds ≡ [] = drop-of-length-le ds h in rw (e)

@@ -1,18 +1,20 @@
 -- From a note's flows in two lists to its lines, and from bytes to a note.
 -- Assumes nothing.
-use Prim.Native.Nat.{ℕ, _+_, _≤_, min}
+use Prim.Native.Nat.{ℕ, _≤_, min}
 use mathlib.Core.Path.{_≡_, refl, sym, ap, subst, _∙_}
 use mathlib.Core.Bool.{true}
 use mathlib.Core.List.{List, [], _∷_, _++_, map}
 use native.Mathlib.Omega.{arith}
-use borrow.Author.Tests.{le-leb, leb-true}
+use borrow.Author.Tests.{le-leb}
 use lib.Dec.{leb}
 use lib.Ieee.{Float, binary64, ofBits, ofInt}
 use lib.ListN.{length, take, drop, length-append, length-map}
 use lib.Seq.{take-at}
+use Rattle.paper.specs.Lists.{Every}
 use Rattle.paper.specs.Outcome.{Outcome, given, refused, unless, andThen}
-use Rattle.paper.proofs.Outcomes.{given-injective, refused-injective, given-not-refused, unless-given, then-given}
+use Rattle.paper.proofs.Outcomes.{given-injective, refused-injective, given-not-refused, then-given}
 use Rattle.room.specs.Room.{fitting, counted, roomAfter}
+use Rattle.room.proofs.Fitting.{fitting-given}
 use Rattle.calendar.specs.Dates.{isDate, dayNumber}
 use Rattle.calendar.specs.Answers.{dateOf}
 use Rattle.calendar.specs.declared.Date.{Date}
@@ -23,7 +25,7 @@ use Rattle.cash_flow.specs.declared.FlowsAnswer.the-variants as flows-answer
 use Rattle.bond.specs.declared.Note.{Note}
 use Rattle.note_flows.specs.NoteFlows.{dayOf, amountOf}
 use Rattle.rollout.specs.Rollout.{cashFlows, fitted, RolloutPromise}
-use Rattle.note_flows.proofs.Flows.{OfNote, Every}
+use Rattle.note_flows.proofs.Flows.{OfNote}
 use Rattle.rollout.proofs.Passes.{cash-flows-of}
 use Rattle.packed_table.specs.Tables.{tableCount, tableDays}
 use Rattle.packed_table.proofs.Tables.{length-days}
@@ -74,12 +76,6 @@ pub record Rolled (n : Note) (table : List ℕ) (k : ℕ) (days : List ℕ) (amo
 
 places : (a b : ℕ) → a ≡ 2000 → b ≡ 2000 → min a b ≡ 2000
 places a b e f = omega arith
-
-fitting-given : (p : ℕ) (o : Outcome (List CashFlow)) (l : List CashFlow) → fitting p o ≡ given l → (o ≡ given l) × (length l ≤ p)
-fitting-given p (given m) l e =
-    let a = unless-given (leb (length m) p) 16 (given m) l e in
-    (a .1, subst (λ (x : List CashFlow). length x ≤ p) (given-injective (a .1)) (leb-true (length m) p (a .0)))
-fitting-given p (refused n) l e = absurd (given-not-refused (sym e))
 
 lines-given : (n : Note) (table : List ℕ) (l : List CashFlow) → fitting 2000 (cashFlows n one table) ≡ given l → noteLines (withDays n table) ≡ linesOf l
 unfolding noteLines

@@ -35,11 +35,11 @@ pub unused-place : (c k n : ℕ) → c ≤ k → placeGood c k n ≡ true → n 
 unfolding placeGood
 unused-place c k n h e = eqb-true n 15 (rw (le-ltb k c h) at e)
 
-number-suc : (c k n : ℕ) → digitsNumber c (suc k) n ≡ pick (ltb k c) (digitsNumber c k (n / 16) * 10 + n % 16) (digitsNumber c k (n / 16))
+pub number-suc : (c k n : ℕ) → digitsNumber c (suc k) n ≡ pick (ltb k c) (digitsNumber c k (n / 16) * 10 + n % 16) (digitsNumber c k (n / 16))
 unfolding digitsNumber
 number-suc c k n = refl
 
-number-none : (c n : ℕ) → digitsNumber c 0 n ≡ 0
+pub number-none : (c n : ℕ) → digitsNumber c 0 n ≡ 0
 unfolding digitsNumber
 number-none c n = refl
 

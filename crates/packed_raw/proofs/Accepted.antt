@@ -1,12 +1,12 @@
 -- What an accepted note has, so that its numbers fit their bits.
 -- Assumes nothing.
-use Prim.Native.Nat.{ℕ, _-_, _^_, _≤_, _<_}
-use mathlib.Core.Path.{_≡_, refl}
-use mathlib.Core.Bool.{true, not}
+use Prim.Native.Nat.{ℕ, _^_, _≤_, _<_}
+use mathlib.Core.Path.{_≡_, sym, subst}
+use mathlib.Core.Bool.{true, not, false≢true}
 use native.Mathlib.Omega.{arith}
 use borrow.Author.Tests.{leb-true, ltb-true}
 use lib.Dec.{T, leb, ltb}
-use lib.IntN.{ℤ, pos, negsuc, natAbs}
+use lib.IntN.{ℤ, pos, natAbs}
 use lib.Signed.{leZ, ltZ}
 use lib.Ieee.{Float, nan, inf, fin, binary64, fits, isNan}
 use lib.Ieee.Bits.{toBits-lt}
@@ -36,13 +36,14 @@ use Rattle.packed_codes.specs.Codes.{unitCode}
 use Rattle.packed_raw.specs.Codes.{ruleCode}
 use Rattle.packed_raw.specs.Fields.{dateFields, couponFields, lettersFields, lettersWith, rawWith}
 use Rattle.packed_raw.specs.Fits.{AllFit, RawFits, Packable}
+use Rattle.time_period.proofs.Signs.{above}
 use Rattle.packed_raw.proofs.Codes.{places-below}
 
 -- ---- a rate is no NaN
 
 pub rate-no-nan : (x : Float) → isRate x ≡ true → T (not (isNan x))
 unfolding isRate isNan
-rate-no-nan nan e = absurd (let z : _≡_ {A = ℕ} 0 1 = cc in omega arith)
+rate-no-nan nan e = absurd (false≢true e)
 rate-no-nan (inf s) e = tt
 rate-no-nan (fin s m d) e = tt
 
@@ -105,8 +106,7 @@ code-below conv.ActActICMA = omega arith
 
 -- a period from 1 to 4,095
 pub in-twelve : (z : ℤ) → ltZ (pos 0) z ≡ true → leZ z (pos 4095) ≡ true → (natAbs z ≤ 4095) × (pos (natAbs z) ≡ z)
-in-twelve (pos n) h l = (leb-true n 4095 l, refl)
-in-twelve (negsuc n) h l = absurd (let z : _≡_ {A = ℕ} 0 1 = cc in omega arith)
+in-twelve z h l = let a = above z h .0 in (leb-true (natAbs z) 4095 (subst (λ (w : ℤ). leZ w (pos 4095) ≡ true) a l), sym a)
 
 -- ---- the number
 

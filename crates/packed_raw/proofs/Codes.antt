@@ -19,10 +19,6 @@ ten-more k p e = rw (add-one k, e) (sym (pow-suc 10 k))
 pub ten-small : (k p : ℕ) → p ≡ 10 ^ k → k ≤ 10 → p ≤ 10000000000
 ten-small k p e h = let l : 10 ^ k ≤ 10 ^ 10 = pow-le-pow-right (omega arith) h in omega arith
 
-pub ten-some : (k p : ℕ) → p ≡ 10 ^ k → 0 < p
-ten-some zero p e = rw (e) (omega arith)
-ten-some (suc k) p e = rw (e) (omega (arith, pow-suc 10 k, ten-some k (10 ^ k) refl))
-
 -- the digits before the place k are those before the next, without its own
 digits-next : (c d k : ℕ) → k < c → d / 10 ^ (c - (k + 1)) / 10 ≡ d / 10 ^ (c - k)
 digits-next c d k h =

@@ -10,7 +10,7 @@ use lib.Dec.{ltb}
 use Rattle.paper.specs.Outcome.{both}
 use Rattle.paper.proofs.Outcomes.{both-true}
 use Rattle.packed_note.specs.Codes.{placeGood, digitsGood, digitsNumber}
-use Rattle.packed_note.proofs.Numbers.{used-place, unused-place}
+use Rattle.packed_note.proofs.Numbers.{used-place, unused-place, number-none, number-suc}
 use Rattle.packed_raw.specs.Codes.{digitsPlaces}
 use Rattle.packed_raw.proofs.Codes.{places-none, places-used, places-unused}
 
@@ -32,17 +32,11 @@ good-none : (c n : ℕ) → digitsGood c 0 n ≡ true
 unfolding digitsGood
 good-none c n = refl
 
-number-none : (c n : ℕ) → digitsNumber c 0 n ≡ 0
-unfolding digitsNumber
-number-none c n = refl
-
 number-used : (c k n : ℕ) → k < c → digitsNumber c (suc k) n ≡ digitsNumber c k (n / 16) * 10 + n % 16
-unfolding digitsNumber
-number-used c k n h = rw (lt-ltb k c h)
+number-used c k n h = number-suc c k n ∙ rw (lt-ltb k c h)
 
 number-unused : (c k n : ℕ) → c ≤ k → digitsNumber c (suc k) n ≡ digitsNumber c k (n / 16)
-unfolding digitsNumber
-number-unused c k n h = rw (le-ltb k c h)
+number-unused c k n h = number-suc c k n ∙ rw (le-ltb k c h)
 
 -- a place and those before it, apart again
 module _ (m a x : ℕ) (e : m ≡ a * 16 + x) (l : x < 16) where

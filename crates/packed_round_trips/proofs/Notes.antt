@@ -1,8 +1,9 @@
 -- A note and the numbers it is packed as, each from the other.
 -- Assumes nothing.
-use Prim.Native.Nat.{ℕ, _+_, _-_, _^_, _≤_, _<_, min}
+use Prim.Native.Nat.{ℕ, _^_, _<_, min}
 use mathlib.Core.Path.{_≡_, sym, ap, subst, _∙_}
 use mathlib.Core.Bool.{true, not}
+use native.Mathlib.Nat.{add-sub-of-le, add-sub-cancel-left}
 use native.Mathlib.Omega.{arith}
 use borrow.Author.Tests.{le-leb, eqb-true}
 use lib.Dec.{T, leb, eqb}
@@ -42,9 +43,6 @@ same-digits n h =
     let m : min 10 (n .count) ≡ n .count = omega (arith, h .to) in
     places-number (n .count) 10 (n .digits) (subst (λ (j : ℕ). n .digits < 10 ^ j) (sym m) (h .below))
 
-letter-back : (b : ℕ) → 65 ≤ b → 64 + (b - 64) ≡ b
-letter-back b h = omega arith
-
 module _ (n : Note) (p : Packable n) (m : InMachine n) where
   pub note-back : noteWith (rawWith n) (n .period .unit) (n .«day_count_convention») ≡ n
   note-back =
@@ -55,9 +53,9 @@ module _ (n : Note) (p : Packable n) (m : InMachine n) where
         in-twelve (n .period .num) (a .period) (p .0) .1,
         rule-back (n .«business_day_rule»),
         ofBits-toBits binary64 (n .rate) (m .1),
-        letter-back (n .currency .first) (c .first .0),
-        letter-back (n .currency .second) (c .second .0),
-        letter-back (n .currency .third) (c .third .0),
+        add-sub-of-le {n = n .currency .first} {m = 64} (omega (arith, c .first .0)),
+        add-sub-of-le {n = n .currency .second} {m = 64} (omega (arith, c .second .0)),
+        add-sub-of-le {n = n .currency .third} {m = 64} (omega (arith, c .third .0)),
       )
 
   pub note-read : noteIn true true (rawWith n) ≡ given n
@@ -110,9 +108,6 @@ same-places : (r : Raw) → numberGood (r .count) (r .digits) ≡ true → r .di
 unfolding numberGood
 same-places r g l = number-places (r .count) 10 (r .digits) (both-true (both (leb 1 (r .count)) (leb (r .count) 10)) (digitsGood (r .count) 10 (r .digits)) g .1) l
 
-letter-there : (b : ℕ) → 64 + b - 64 ≡ b
-letter-there b = omega arith
-
 pub raw-back : (r : Raw) (n : Note) → Narrow r → Read r n → rawWith n ≡ r
 raw-back r n f h =
     let no-nan : T (not (isNan (ofBits binary64 (r .rate)))) = subst (λ (m : Note). T (not (isNan (m .rate)))) (sym (h .itself)) (rate-no-nan (n .rate) (h .rate)) in
@@ -123,8 +118,8 @@ raw-back r n f h =
       convention-code (r .terms .convention) (h .convention) (h .convention-known),
       rule-code (r .terms .adjustment) (f .adjustment),
       toBits-ofBits binary64 (r .rate) (f .rate) no-nan,
-      letter-there (r .letters .first),
-      letter-there (r .letters .second),
-      letter-there (r .letters .third),
+      add-sub-cancel-left 64 (r .letters .first),
+      add-sub-cancel-left 64 (r .letters .second),
+      add-sub-cancel-left 64 (r .letters .third),
       ← h .spare,
     )

@@ -16,7 +16,7 @@ use Rattle.paper.proofs.Outcomes.{given-injective, both-true, unless-given, the
 use Rattle.bit_fields.specs.Bits.{inBits, fieldBits, fieldsBits, bitsOf, field, AreBytes}
 use Rattle.bit_fields.proofs.Bits.{field-found}
 use Rattle.holidays.specs.Table.{ascendsFrom, isTable}
-use Rattle.holidays.proofs.Table.{table-ascends}
+use Rattle.holidays.proofs.Table.{table-ascends, table-most}
 use Rattle.bond.specs.Notes.{noteChecks}
 use Rattle.bond.specs.declared.Note.{Note}
 use Rattle.bond.proofs.Ends.{passed}
@@ -31,7 +31,6 @@ use Rattle.packed_raw.proofs.Accepted.{raw-fits}
 use Rattle.packed_write.specs.Fields.{headFields, middleFields, tailFields, rawFields, dayFields, tableFields, zerosBehind, rawBytes, recordBytes}
 use Rattle.packed_write.specs.Writing.{packedNote}
 use Rattle.packed_write.proofs.Fields.{fields-are, length-record, whole-bits, whole-bytes, bytes-length}
-use Rattle.packed_write.proofs.Tables.{table-short}
 use Rattle.packed_round_trips.specs.RoundTrips.{InMachine}
 use Rattle.packed_round_trips.proofs.Found.{Found, found-in, found-first, found-later, all-fit, raw-read, days-read}
 use Rattle.packed_round_trips.proofs.Notes.{note-read}
@@ -102,7 +101,7 @@ module _ (r : Raw) (t : List ℕ) where
     all-found : Found (rawBytes r t) 0 (rawFields r ++ tableFields t)
     all-found =
         found-in (rawBytes r t) [] (fieldBits (zerosBehind (length (fieldsBits (rawFields r ++ tableFields t)))) 0) 0 (rawFields r ++ tableFields t) raw-bits refl
-        (all-fit (rawFields r) (tableFields t) (raw-all r f) (omega (arith, table-short t g), days-fit 1 t (table-ascends t g)))
+        (all-fit (rawFields r) (tableFields t) (raw-all r f) (omega (arith, table-most t g), days-fit 1 t (table-ascends t g)))
 
     pub same-raw : rawOf (rawBytes r t) ≡ r
     same-raw = raw-read (rawBytes r t) r (found-first (rawBytes r t) 0 (rawFields r) (tableFields t) all-found)
@@ -114,12 +113,12 @@ module _ (r : Raw) (t : List ℕ) where
     same-days = ap (daysFrom (rawBytes r t) 0) (table-found .0) ∙ days-read (rawBytes r t) 0 t (table-found .1)
 
     pub whole : isWhole (rawBytes r t) ≡ true
-    whole = sym (exact (rawBytes r t) (length t) 0 (sym (table-found .0)) (omega (arith, bytes-length r t)) (table-short t g) (bytes-length r t) (sym spare-zero))
+    whole = sym (exact (rawBytes r t) (length t) 0 (sym (table-found .0)) (omega (arith, bytes-length r t)) (table-most t g) (bytes-length r t) (sym spare-zero))
 
     pub table-in : isTableIn (rawBytes r t) ≡ true
     unfolding isTableIn
     table-in =
-        let few : leb (tableCount (rawBytes r t)) 4096 ≡ true = ap (λ (k : ℕ). leb k 4096) (table-found .0) ∙ le-leb (length t) 4096 (table-short t g) in
+        let few : leb (tableCount (rawBytes r t)) 4096 ≡ true = ap (λ (k : ℕ). leb k 4096) (table-found .0) ∙ le-leb (length t) 4096 (table-most t g) in
         let same : isTable (tableDays (rawBytes r t)) ≡ true = ap isTable same-days ∙ g in
         rw (few, same)
 

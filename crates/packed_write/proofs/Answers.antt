@@ -1,12 +1,11 @@
 -- The answers of writing a note: 18 for its period, the note's refusals, or what is written.
 -- Assumes nothing.
 use Prim.Native.Nat.{ℕ}
-use mathlib.Core.Path.{_≡_, refl, sym, ap, _∙_}
+use mathlib.Core.Path.{_≡_, sym, ap, _∙_}
 use mathlib.Core.Bool.{Bool, true, false}
 use mathlib.Core.List.{List}
-use borrow.Author.Tests.{lt-leb, le-leb, ltb-true, ltb-false}
-use lib.IntN.{ℤ, pos, negsuc}
-use lib.Signed.{leZ, ltZ}
+use lib.IntN.{pos}
+use lib.Signed.{leZ}
 use Rattle.paper.specs.Outcome.{given, refused}
 use Rattle.text.specs.Writing.{Written, lengthOutcome}
 use Rattle.text.specs.declared.LengthAnswer.{LengthAnswer}
@@ -18,15 +17,6 @@ use Rattle.bond.proofs.Ends.{passed}
 use Rattle.packed_raw.specs.Fits.{Packable}
 use Rattle.packed_write.specs.Fields.{recordBytes}
 use Rattle.packed_write.specs.Writing.{packedNote, WritePromise}
-
--- the machine's test of the period
-pub above-twelve : (z : ℤ) → ltZ (pos 4095) z ≡ true → leZ z (pos 4095) ≡ false
-above-twelve (pos n) h = lt-leb n 4095 (ltb-true 4095 n h)
-above-twelve (negsuc n) h = sym h
-
-pub within-twelve : (z : ℤ) → ltZ (pos 4095) z ≡ false → leZ z (pos 4095) ≡ true
-within-twelve (pos n) h = le-leb n 4095 (ltb-false 4095 n h)
-within-twelve (negsuc n) h = refl
 
 module _ (n : Note) (table d : List ℕ) where
   pub period-refused : leZ (n .period .num) (pos 4095) ≡ false → WritePromise n table d d (length-answer.Refused 18)

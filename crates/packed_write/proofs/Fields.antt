@@ -7,8 +7,9 @@ use native.Mathlib.Numerals.{add-one}
 use native.Mathlib.Omega.{arith}
 use lib.ListN.{length, take, getD, length-append}
 use lib.Seq.{take-suc}
+use Rattle.paper.proofs.Lists.{every-append}
 use Rattle.bit_fields.specs.Bits.{Field, inBits, fieldBits, fieldsBits, bitsOf, AreBytes}
-use Rattle.bit_fields.proofs.Bits.{AreBits, one-field, bits-append, length-field, field-bits, length-bytes, bits-back, bytes-are}
+use Rattle.bit_fields.proofs.Bits.{Bit, AreBits, one-field, length-field, field-bits, length-bytes, bits-back, bytes-are}
 use Rattle.packed_numbers.specs.declared.Raw.{Raw}
 use Rattle.packed_write.specs.Fields.{rawFields, dayFields, tableFields, zerosBehind, wholeBytes, rawBytes}
 
@@ -22,7 +23,7 @@ fields-append (f ∷ fs) gs = rw (fields-append fs gs) (sym (append-assoc (field
 pub fields-are : (fs : List Field) → AreBits (fieldsBits fs)
 unfolding fieldsBits
 fields-are [] = omega arith
-fields-are (f ∷ fs) = bits-append (fieldBits (f .width) (f .number)) (fieldsBits fs) (field-bits (f .width) (f .number)) (fields-are fs)
+fields-are (f ∷ fs) = every-append Bit (fieldBits (f .width) (f .number)) (fieldsBits fs) (field-bits (f .width) (f .number)) (fields-are fs)
 
 -- how many bits they take
 abbrev pub widths : List Field → ℕ
@@ -83,11 +84,11 @@ module _ (s : List ℕ) where
 
   pub whole-bits : AreBits s → bitsOf (wholeBytes s) ≡ s ++ fieldBits (zerosBehind (length s)) 0
   unfolding wholeBytes
-  whole-bits h = bits-back ((length s + 7) / 8) (s ++ fieldBits (zerosBehind (length s)) 0) (bits-append s (fieldBits (zerosBehind (length s)) 0) h (field-bits (zerosBehind (length s)) 0)) padded-length
+  whole-bits h = bits-back ((length s + 7) / 8) (s ++ fieldBits (zerosBehind (length s)) 0) (every-append Bit s (fieldBits (zerosBehind (length s)) 0) h (field-bits (zerosBehind (length s)) 0)) padded-length
 
   pub whole-bytes : AreBits s → AreBytes (wholeBytes s)
   unfolding wholeBytes
-  whole-bytes h = bytes-are ((length s + 7) / 8) (s ++ fieldBits (zerosBehind (length s)) 0) (bits-append s (fieldBits (zerosBehind (length s)) 0) h (field-bits (zerosBehind (length s)) 0)) padded-length
+  whole-bytes h = bytes-are ((length s + 7) / 8) (s ++ fieldBits (zerosBehind (length s)) 0) (every-append Bit s (fieldBits (zerosBehind (length s)) 0) h (field-bits (zerosBehind (length s)) 0)) padded-length
 
 pub bytes-length : (r : Raw) (t : List ℕ) → length (rawBytes r t) ≡ (256 + 22 * length t + 7) / 8
 unfolding rawBytes

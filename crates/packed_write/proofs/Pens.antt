@@ -5,8 +5,9 @@ use mathlib.Core.Path.{_≡_, refl, sym, ap, _∙_}
 use mathlib.Core.List.{List, [], _∷_, _++_, append-assoc, append-nil}
 use native.Mathlib.Nat.{zero-add, add-zero}
 use native.Mathlib.Omega.{arith}
-use lib.ListN.{length, take, drop, getD, length-append}
-use lib.Seq.{drop-drop, take-length}
+use lib.ListN.{length, take, getD, length-append}
+use lib.Seq.{take-length}
+use Rattle.paper.proofs.Lists.{tails-agree}
 use Rattle.bit_fields.specs.Bits.{Field, inBits, fieldBits, fieldsBits, bitsOf, bytesOf}
 use Rattle.bit_fields.specs.Pens.{Held, putSoFar, Drew}
 use Rattle.bit_fields.specs.declared.Pen.{Pen}
@@ -36,22 +37,11 @@ drew-then {d} {e} {f} {p} {q} {r} {m} {n} {fs} {gs} a b = record {
   held = b .held;
   drawn = b .drawn ∙ ap (λ (x : List ℕ). x ++ fieldsBits gs) (a .drawn) ∙ append-assoc (putSoFar d p) (fieldsBits fs) (fieldsBits gs) ∙ ap (λ (x : List ℕ). putSoFar d p ++ x) (sym (fields-append fs gs));
   bytes = λ x. b .bytes (a .bytes x);
-  past = b .past ∙ later;
+  past = b .past ∙ tails-agree e d (q .place) (r .place) (omega (arith, b .moved, a .held .0, b .held .0)) (a .past);
   same-length = b .same-length ∙ a .same-length;
   moved = omega (arith, a .moved, b .moved);
   counted = ap length (fields-append fs gs) ∙ omega (arith, length-append (fieldsBits fs) (fieldsBits gs), a .counted, b .counted);
 }
-  where
-    ahead : q .place + (r .place - q .place) ≡ r .place
-    ahead = omega (arith, b .moved, a .held .0, b .held .0)
-
-    later : drop (r .place) e ≡ drop (r .place) d
-    later =
-        ap (λ (k : ℕ). drop k e) (sym ahead)
-        ∙ sym (drop-drop (r .place - q .place) (q .place) e)
-        ∙ ap (drop (r .place - q .place)) (a .past)
-        ∙ drop-drop (r .place - q .place) (q .place) d
-        ∙ ap (λ (k : ℕ). drop k d) ahead
 
 -- the same bits as other fields
 pub drew-is : {d e : List ℕ} {p r : Pen} {m n : ℕ} {fs gs : List Field} → Drew d e p r m fs → m ≡ n → fieldsBits fs ≡ fieldsBits gs → Drew d e p r n gs

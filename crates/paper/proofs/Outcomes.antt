@@ -4,7 +4,7 @@ use Prim.Native.Nat.{ℕ, _<_}
 use mathlib.Core.Path.{_≡_, refl, sym, _∙_, ap}
 use mathlib.Core.Bool.{Bool, true, false}
 use native.Mathlib.Omega.{arith}
-use Rattle.paper.specs.Outcome.{Outcome, given, refused, number, value, unless, andThen, Given, Numbered, both}
+use Rattle.paper.specs.Outcome.{Outcome, given, refused, number, value, unless, andThen, Given, Numbered, pick, both}
 
 pub given-injective : {A : Type 0} {a b : A} → given a ≡ given b → a ≡ b
 given-injective e = cc
@@ -41,6 +41,10 @@ unless-numbered false n o h k = h
 pub then-numbered : {A B : Type 0} (o : Outcome A) (f : A → Outcome B) → Numbered o → ((a : A) → Numbered (f a)) → Numbered (andThen o f)
 then-numbered (given a) f h k = k a
 then-numbered (refused n) f h k = h
+
+pub pick-numbered : {A : Type 0} (b : Bool) (o p : Outcome A) → Numbered o → Numbered p → Numbered (pick b o p)
+pick-numbered true o p h k = h
+pick-numbered false o p h k = k
 
 -- a value that comes out of a check says that the check held
 pub unless-given : {A : Type 0} (b : Bool) (n : ℕ) (o : Outcome A) (a : A) → unless b n o ≡ given a → (b ≡ true) × (o ≡ given a)

@@ -1,9 +1,7 @@
 -- What an added and a subtracted period lead to.
 -- Assumes nothing.
-use Prim.Native.Nat.{ℕ}
 use mathlib.Core.Path.{_≡_, refl, sym, _∙_}
-use mathlib.Core.Bool.{true, false}
-use native.Mathlib.Omega.{arith}
+use mathlib.Core.Bool.{true, false, false≢true}
 use lib.IntN.{ℤ, pos, negsuc, negℤ}
 use lib.Signed.{ltZ}
 use Rattle.paper.specs.Outcome.{given, refused}
@@ -56,7 +54,7 @@ add-leads p h t u e = let j = add-judged p h t u e in step-leads p h t u (j .fro
 
 positive-not-least : (n : ℤ) → ltZ (pos 0) n ≡ true → isLeast n ≡ false
 positive-not-least (pos k) e = refl
-positive-not-least (negsuc k) e = absurd (let w : _≡_ {A = ℕ} 0 1 = cc in omega arith)
+positive-not-least (negsuc k) e = absurd (false≢true e)
 
 pub sub-leads : (p : TimePeriod) (h : Holidays) (t u : Date) → ltZ (pos 0) (p .num) ≡ true → subFrom p h t ≡ given u → EarlierDate t u
 sub-leads p h t u s e =

@@ -19,15 +19,9 @@ use Rattle.holidays.specs.Table.{ascendsFrom, isTable, listed}
 use Rattle.holidays.specs.Business.{isWeekend, isBusiness, firstOf, nextFrom, lastOf, prevFrom, repeated}
 use Rattle.period_steps.specs.Added.{addTo, subFrom}
 use Rattle.time_period.specs.Steps.{absent, table, businessDay, businessStep, inverseOf}
-use Rattle.time_period.specs.declared.TimePeriodUnit.{TimePeriodUnit}
 use Rattle.time_period.specs.declared.TimePeriodUnit.the-variants.{Daily, BusinessDaily, Weekly, Monthly, Annual}
-use Rattle.time_period.specs.declared.TimePeriod.{TimePeriod}
-
-abbrev on : ℕ → ℕ → ℕ → Date
-on y m d = record { year = y; month = m; day = d }
-
-abbrev of : ℤ → TimePeriodUnit → TimePeriod
-of n u = record { num = n; unit = u }
+use Rattle.calendar.proofs.Examples.{on}
+use Rattle.time_period.proofs.Examples.{of}
 
 -- each of the desk card's by its letter; and -15M, added and subtracted
 pub record Card : Type 0 where

@@ -2,17 +2,13 @@
 -- Assumes nothing.
 use mathlib.Core.Path.{_≡_, refl}
 use mathlib.Core.List.{[], _∷_}
-use lib.IntN.{ℤ, pos, negsuc}
+use lib.IntN.{pos, negsuc}
 use Rattle.paper.specs.Outcome.{given, refused}
 use Rattle.reading.specs.Reading.{isDigit, allDigits, isDecimal, continued, decimalNumber, begins, afterPlus, belowZero, fromZero, signedNumber}
 use Rattle.text.specs.Writing.{digits, placesWithin, places, decimalText, signedText}
-use Rattle.time_period.specs.declared.TimePeriodUnit.{TimePeriodUnit}
 use Rattle.time_period.specs.declared.TimePeriodUnit.the-variants.{Daily, BusinessDaily, Weekly, Monthly, Annual}
-use Rattle.time_period.specs.declared.TimePeriod.{TimePeriod}
 use Rattle.period_text.specs.PeriodTexts.{unitOf, numberPart, periodOf, periodText}
-
-abbrev of : ℤ → TimePeriodUnit → TimePeriod
-of n u = record { num = n; unit = u }
+use Rattle.time_period.proofs.Examples.{of}
 
 pub record Texts : Type 0 where
   -- `6M`

@@ -3,14 +3,13 @@ use Prim.Native.Nat.{ℕ, _+_, _≤_, _<_}
 use mathlib.Core.Path.{_≡_, refl, sym, ap, _∙_}
 use mathlib.Core.Bool.{Bool, true, false}
 use mathlib.Core.List.{List, [], _∷_}
-use native.Mathlib.Numerals.{add-one}
 use native.Mathlib.Omega.{arith}
 use lib.ListN.{length, getD, drop, drop-of-length-le}
-use lib.Seq.{drop-cons}
 use lib.IntN.{pos}
-use lib.Ieee.{Float, nan}
+use lib.Ieee.{Float}
 use denote.Laws.{Is}
 use denote.Enum.Laws as EL
+use Rattle.paper.proofs.Lists.{head-at}
 use Rattle.paper.specs.Outcome.{Outcome, given, refused, unless, andThen}
 use Rattle.calendar.specs.declared.Date.{Date}
 use Rattle.cash_amount.specs.Amounts.{amountOutcome}
@@ -18,16 +17,13 @@ use Rattle.cash_amount.specs.declared.AmountAnswer.{AmountAnswer}
 use Rattle.cash_amount.proofs.AmountAnswer as E
 use Rattle.cash_amount.proofs.AmountAnswer.Laws as E′
 use Rattle.cash_flow.specs.declared.CashFlow.{CashFlow}
+use Rattle.cash_flow.proofs.NoFlow.{noFlow}
 use Rattle.day_fraction.specs.Fractions.{whole}
 use Rattle.rate_factors.specs.Factors.{isRate}
 use Rattle.rates.specs.Rates.{streamFrom, discountedStream}
 use Rattle.rate_streams.specs.Steps.{streamStart, flowOnto}
 use Rattle.rates.specs.declared.FlatRate.{FlatRate}
 use Rattle.rates.proofs.Streams.{stream-more, stream-none}
-
--- the flow past a slice's end, which is never read
-abbrev pub noFlow : CashFlow
-noFlow = record { date = record { year = 0; month = 0; day = 0 }; currency = record { first = 0; second = 0; third = 0 }; amount = nan }
 
 -- an answer holds what its type says
 abbrev pub Held : AmountAnswer → Type 0
@@ -60,7 +56,7 @@ module _ (r : FlatRate) (today : Date) (ys : List CashFlow) where
   module _ (t : Summed r today ys) where
     pub more-told : (a : AmountAnswer) → t .i < length ys → amountOutcome a ≡ flowOnto r today (amountOutcome (t .so-far)) (getD ys (t .i) noFlow) → andThen (amountOutcome a) (λ sum. streamFrom r today sum (drop (t .i + 1) ys)) ≡ discountedStream r today ys
     more-told a l e =
-        let next : drop (t .i) ys ≡ getD ys (t .i) noFlow ∷ drop (t .i + 1) ys = drop-cons ys (t .i) noFlow l ∙ ap (λ (k : ℕ). getD ys (t .i) noFlow ∷ drop k ys) (sym (add-one (t .i))) in
+        let next : drop (t .i) ys ≡ getD ys (t .i) noFlow ∷ drop (t .i + 1) ys = head-at ys (t .i) noFlow l in
         onto (amountOutcome (t .so-far)) (amountOutcome a) (getD ys (t .i) noFlow) (drop (t .i + 1) ys) e
         ∙ ap (λ (fs : List CashFlow). andThen (amountOutcome (t .so-far)) (λ sum. streamFrom r today sum fs)) (sym next)
         ∙ t .told

@@ -19,9 +19,7 @@ use Rattle.day_count_conv.specs.declared.DayCountConv.the-variants as conv
 use Rattle.rate_factors.specs.Factors.{isRate, factorOf}
 use Rattle.rates.specs.Rates.{fractionTo, discountFactor, isOneCurrency, flowValue, discountedFlow, flowAdded, streamFrom, discountedStream}
 use Rattle.rates.specs.declared.FlatRate.{FlatRate}
-
-abbrev on : ℕ → ℕ → ℕ → Date
-on y m d = record { year = y; month = m; day = d }
+use Rattle.calendar.proofs.Examples.{on}
 
 abbrev currency : ℕ → Currency
 currency letter = record { first = 69; second = 85; third = letter }

@@ -3,15 +3,14 @@ use Prim.Native.Nat.{ℕ, _+_, _-_, _*_, _≤_, _<_}
 use mathlib.Core.Path.{_≡_, refl, sym, _∙_}
 use mathlib.Core.Bool.{Bool, true, false}
 use mathlib.Core.List.{List, [], _∷_}
-use native.Mathlib.Numerals.{add-one}
 use native.Mathlib.Omega.{arith}
 use lib.Dec.{leb, eqb}
-use lib.ListN.{length, getD, take, drop, length-drop, drop-of-length-le}
-use lib.Seq.{drop-cons, take-all}
+use lib.ListN.{length, getD, drop, drop-of-length-le}
 use lib.IntN.{ℤ}
 use borrow.Author.Tests.{le-leb, lt-leb, leb-true, eq-eqb, ne-eqb}
-use Rattle.paper.specs.Outcome.{Outcome, given, refused, unless, Numbered, pick}
-use Rattle.paper.proofs.Outcomes.{given-injective, unless-given, unless-numbered, then-numbered, both-true}
+use Rattle.paper.specs.Outcome.{Outcome, given, refused, unless, Numbered}
+use Rattle.paper.proofs.Lists.{head-at}
+use Rattle.paper.proofs.Outcomes.{given-injective, unless-given, unless-numbered, then-numbered, pick-numbered, both-true}
 use Rattle.reading.specs.Reading.{isDigit, allDigits, isDecimal, continued, decimalValue, decimalNumber, begins, afterPlus, unsignedNumber, belowZero, fromZero, signedNumber}
 
 -- ---- one byte
@@ -31,10 +30,6 @@ digit-high b h = rw (le-leb 48 b (omega arith), lt-leb b 57 h)
 pub digit-bounds : (b : ℕ) → isDigit b ≡ true → (48 ≤ b) × (b ≤ 57)
 unfolding isDigit
 digit-bounds b e = let p = both-true (leb 48 b) (leb b 57) e in (leb-true 48 b (p .0), leb-true b 57 (p .1))
-
--- the rest from place i on begins with its byte
-pub byte-first : (s : List ℕ) (i : ℕ) → i < length s → drop i s ≡ getD s i 0 ∷ drop (i + 1) s
-byte-first s i h = rw (add-one i) (drop-cons s i 0 h)
 
 -- ---- what comes out where the number v is read and the text s is left
 
@@ -62,7 +57,7 @@ unfolding remaining allDigits
 bad-first most n v b s e = rw (e)
 
 pub remaining-bad : (most n v k : ℕ) (s : List ℕ) (z : Outcome ℕ) → remaining most n v (drop k s) ≡ z → k < length s → isDigit (getD s k 0) ≡ false → refused n ≡ z
-remaining-bad most n v k s z e h f = sym (bad-first most n v (getD s k 0) (drop (k + 1) s) f) ∙ rw (byte-first s k h) at e
+remaining-bad most n v k s z e h f = sym (bad-first most n v (getD s k 0) (drop (k + 1) s) f) ∙ rw (head-at s k 0 h) at e
 
 -- a digit more
 digit-first : (most n v b : ℕ) (s : List ℕ) → isDigit b ≡ true → remaining most n v (b ∷ s) ≡ remaining most n (v * 10 + (b - 48)) s
@@ -70,7 +65,7 @@ unfolding remaining allDigits continued
 digit-first most n v b s e = rw (e)
 
 pub remaining-more : (most n v k : ℕ) (s : List ℕ) (z : Outcome ℕ) → remaining most n v (drop k s) ≡ z → k < length s → isDigit (getD s k 0) ≡ true → remaining most n (v * 10 + (getD s k 0 - 48)) (drop (k + 1) s) ≡ z
-remaining-more most n v k s z e h f = sym (digit-first most n v (getD s k 0) (drop (k + 1) s) f) ∙ rw (byte-first s k h) at e
+remaining-more most n v k s z e h f = sym (digit-first most n v (getD s k 0) (drop (k + 1) s) f) ∙ rw (head-at s k 0 h) at e
 
 -- what is past the limit stays past it
 unless-both : (b : Bool) (n v : ℕ) → unless b n (unless false n (given v)) ≡ refused n
@@ -102,10 +97,6 @@ begins-first b [] h = absurd (h refl)
 begins-first b (c ∷ s) h = refl
 
 -- ---- the sign cut off
-
--- all that stands behind the first byte, as a part of a slice gives it
-pub tail-whole : (s : List ℕ) → take (length s - 1) (drop 1 s) ≡ drop 1 s
-tail-whole s = take-all (length s - 1) (drop 1 s) (omega (arith, length-drop 1 s))
 
 pub unsigned-empty : (n : ℕ) (s : List ℕ) → length s ≡ 0 → refused n ≡ unsignedNumber n s
 unfolding unsignedNumber afterPlus begins
@@ -149,8 +140,7 @@ unsigned-numbered n s h = decimal-numbered 4294967295 n (afterPlus s) h
 
 pub signed-numbered : (n : ℕ) (s : List ℕ) → 0 < n → Numbered (signedNumber n s)
 unfolding signedNumber belowZero fromZero
-signed-numbered n s h = go (begins 45 s)
-  where
-    go : (b : Bool) → Numbered (pick b (belowZero n (drop 1 s)) (fromZero n (afterPlus s)))
-    go true = then-numbered (decimalNumber 2147483648 n (drop 1 s)) _ (decimal-numbered 2147483648 n (drop 1 s) h) (λ v. omega arith)
-    go false = then-numbered (decimalNumber 2147483647 n (afterPlus s)) _ (decimal-numbered 2147483647 n (afterPlus s) h) (λ v. omega arith)
+signed-numbered n s h =
+    pick-numbered (begins 45 s) _ _
+    (then-numbered (decimalNumber 2147483648 n (drop 1 s)) _ (decimal-numbered 2147483648 n (drop 1 s) h) (λ v. omega arith))
+    (then-numbered (decimalNumber 2147483647 n (afterPlus s)) _ (decimal-numbered 2147483647 n (afterPlus s) h) (λ v. omega arith))

@@ -1,26 +1,22 @@
 -- Laws of numbers below zero: a magnitude taken from zero. Assumes nothing.
-use Prim.Native.Nat.{ℕ, zero, suc, _≤_, _<_}
+use Prim.Native.Nat.{ℕ, _≤_}
 use mathlib.Core.Path.{_≡_}
 use mathlib.Core.List.{List}
 use native.Mathlib.Omega.{arith}
 use lib.IntN.{ℤ, pos, negℤ, _-ℤ_, +ℤ-idl}
-use lib.Signed.{mag}
 use mir.Syntax.{w32, w64}
 use mir.Val.{toZ, ofZ}
 use mir.Facts.{toZ-pos, toZ-ofZ}
+use Rattle.paper.proofs.Numbers.{mag-minus}
 use Rattle.paper.specs.Outcome.{given, refused}
 use Rattle.reading.specs.Reading.{decimalNumber, belowZero, fromZero}
 
 pub minus : (v : ℕ) → v ≤ 2147483648 → (pos 0 -ℤ toZ w64 v) ≡ negℤ (pos v)
 minus v h = rw (toZ-pos w64 {n = v} (omega arith)) (+ℤ-idl (negℤ (pos v)))
 
-pub mag-minus : (v : ℕ) → v ≤ 2147483648 → mag (negℤ (pos v)) < 2147483648
-mag-minus zero h = omega arith
-mag-minus (suc n) h = omega arith
-
 -- read back from 32 bits
 pub minus-back : (z : ℤ) (v : ℕ) → z ≡ negℤ (pos v) → v ≤ 2147483648 → toZ w32 (ofZ w32 z) ≡ negℤ (pos v)
-minus-back z v e h = rw (e) (toZ-ofZ {w = w32} (record { sfits = mag-minus v h }))
+minus-back z v e h = rw (e) (toZ-ofZ {w = w32} (record { sfits = mag-minus v 2147483648 (omega arith) h }))
 
 -- a number read and then given its sign
 pub below-number : (n v : ℕ) (z : ℤ) (s : List ℕ) → given v ≡ decimalNumber 2147483648 n s → z ≡ negℤ (pos v) → given z ≡ belowZero n s

@@ -25,7 +25,8 @@ use Rattle.cash_amount.specs.Amounts.{isCapital, isCurrency}
 use Rattle.cash_flow.specs.declared.CashFlow.{CashFlow}
 use Rattle.bond.specs.Notes.{isNoteNumber, isRate, isPosition, periodChecks, termChecks, noteChecks, inYearOf, firstCouponEnd, couponAmount}
 use Rattle.bond.specs.declared.Note.{Note}
-use Rattle.bond.proofs.Examples.{on, euro}
+use Rattle.calendar.proofs.Examples.{on}
+use Rattle.bond.proofs.Examples.{euro}
 use Rattle.bond.proofs.Examples as notes
 use Rattle.note_flows.specs.NoteFlows.{paid, couponFlow, flowsAfter, noteFlows, dayOf, amountOf}
 use Rattle.rollout.specs.Rollout.{cashFlows, fitted}

@@ -5,12 +5,11 @@ use mathlib.Core.Path.{_≡_, sym, _∙_}
 use mathlib.Core.Bool.{Bool, true, false}
 use mathlib.Core.List.{List, []}
 use native.Mathlib.Omega.{arith}
-use lib.Dec.{leb}
 use lib.ListN.{length}
 use lib.Ieee.{Float}
-use Rattle.paper.specs.Outcome.{Outcome, given, refused, andThen, Numbered}
-use Rattle.paper.proofs.Outcomes.{unless-numbered, then-numbered}
-use Rattle.room.specs.Room.{fitting}
+use Rattle.paper.specs.Outcome.{Outcome, given, andThen, Numbered}
+use Rattle.paper.proofs.Outcomes.{then-numbered}
+use Rattle.room.proofs.Fitting.{fitting-numbered}
 use Rattle.calendar.specs.Dates.{isBefore}
 use Rattle.calendar.specs.declared.Date.{Date}
 use Rattle.holidays.specs.Table.{isTable}
@@ -65,10 +64,6 @@ module _ (n : Note) (position : Float) (table : List ℕ) where
   flows-numbered =
       then-numbered (firstCouponEnd n) (λ end. followed (couponFlow n position table (n .«issue_date») end end) (flowsAfter 3652059 n position table end)) (first-end-numbered n)
       (λ end. followed-numbered (couponFlow n position table (n .«issue_date») end end) (flowsAfter 3652059 n position table end) (coupon-numbered (n .«issue_date») end end) (after-numbered 3652059 end))
-
-pub fitting-numbered : (places : ℕ) (o : Outcome (List CashFlow)) → Numbered o → Numbered (fitting places o)
-fitting-numbered places (given l) h = unless-numbered (leb (length l) places) 16 (given l) (omega arith) (omega arith)
-fitting-numbered places (refused k) h = h
 
 pub cash-flows-numbered : (n : Note) (position : Float) (table : List ℕ) → Numbered (cashFlows n position table)
 unfolding cashFlows

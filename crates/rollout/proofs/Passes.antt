@@ -1,13 +1,14 @@
 -- What the first pass found is the answer; what it kept, or wrote over the lent room, is what the lists hold.
 -- Assumes nothing.
 use Prim.Native.Nat.{ℕ, _≤_, _<_, min}
-use mathlib.Core.Path.{_≡_, sym, _∙_, ap, ap₂}
+use mathlib.Core.Path.{_≡_, sym, _∙_, ap}
 use mathlib.Core.Bool.{Bool}
 use mathlib.Core.List.{List, _++_}
 use native.Mathlib.Omega.{arith}
 use lib.ListN.{length, take, drop}
 use lib.Ieee.{Float}
-use Rattle.paper.specs.Outcome.{Outcome, given, refused, andThen}
+use Rattle.paper.specs.Lists.{Every}
+use Rattle.paper.specs.Outcome.{Outcome, given, refused}
 use Rattle.paper.proofs.Outcomes.{then-given}
 use Rattle.room.specs.Room.{fitting, counted, roomAfter}
 use Rattle.room.proofs.Filling.{room-copied}
@@ -21,8 +22,8 @@ use Rattle.bond.specs.declared.Note.{Note}
 use Rattle.bond.proofs.Ends.{passed}
 use Rattle.note_flows.specs.NoteFlows.{noteFlows, dayOf, amountOf}
 use Rattle.note_flows.specs.Turns.{Judged, Kept}
-use Rattle.note_flows.proofs.Flows.{Every, OfNote, flows-of}
-use Rattle.note_flows.proofs.Judging.{all-flows, fits, short, stopped}
+use Rattle.note_flows.proofs.Flows.{OfNote, flows-of}
+use Rattle.note_flows.proofs.Judging.{all-stopped, all-short, all-fit, flows-refused}
 use Rattle.rollout.specs.Rollout.{cashFlows, fitted, RolloutPromise}
 
 module _ (n : Note) (position : Float) (table : List ℕ) where
@@ -36,18 +37,15 @@ module _ (n : Note) (position : Float) (table : List ℕ) where
     }
 
     module _ (j : Judged n position table) where
-      of-flows : (o : Outcome (List CashFlow)) → fitting (min (length days) (length amounts)) (noteFlows n position table) ≡ o → fitted n position table days amounts ≡ o
-      of-flows o e = ap (fitting (min (length days) (length amounts))) (all-flows n position table j) ∙ e
-
       pub fill-stopped : (k : ℕ) → refused k ≡ counted (noteFlows n position table) → RolloutPromise n position table days amounts (flows-answer.Refused k) days amounts
-      fill-stopped k c = kept k (of-flows (refused k) (stopped (noteFlows n position table) k _ (sym c)))
+      fill-stopped k c = kept k (all-stopped n position table j k _ c)
 
       pub fill-short : (m : ℕ) → given m ≡ counted (noteFlows n position table) → min (length days) (length amounts) < m → RolloutPromise n position table days amounts (flows-answer.Refused 16) days amounts
-      fill-short m c h = kept 16 (of-flows (refused 16) (short (noteFlows n position table) m _ (sym c) h))
+      fill-short m c h = kept 16 (all-short n position table j m _ c h)
 
       pub fill-done : (m : ℕ) (days′ : List ℕ) (amounts′ : List Float) → given m ≡ counted (noteFlows n position table) → m ≤ length days → m ≤ length amounts → days′ ≡ roomAfter dayOf (noteFlows n position table) days → amounts′ ≡ roomAfter amountOf (noteFlows n position table) amounts → RolloutPromise n position table days amounts (flows-answer.Flows m) days′ amounts′
       fill-done m days′ amounts′ c hd ha d a =
-          let e = of-flows (noteFlows n position table) (fits (noteFlows n position table) m _ (sym c) (omega arith)) in
+          let e = all-fit n position table j m (min (length days) (length amounts)) c (omega arith) in
           record {
             answer = c ∙ sym (ap counted e);
             days-are = d ∙ sym (ap (λ (o : Outcome (List CashFlow)). roomAfter dayOf o days) e);
@@ -71,9 +69,7 @@ module _ (n : Note) (position : Float) (table : List ℕ) where
 
     -- the note's refusals
     pub note-refused : (p t : Bool) (k : ℕ) → p ≡ isPosition position → t ≡ isTable table → noteChecks p t n ≡ refused k → RolloutPromise n position table days amounts (flows-answer.Refused k) days amounts
-    unfolding cashFlows
-    note-refused p t k a b e =
-        kept k (ap (λ (o : Outcome Note). fitting (min (length days) (length amounts)) (andThen o (λ m. noteFlows m position table))) (ap₂ (λ (x y : Bool). noteChecks x y n) (sym a) (sym b) ∙ e))
+    note-refused p t k a b e = kept k (ap (fitting (min (length days) (length amounts))) (flows-refused n position table p t k a b e))
 
 -- the flows of a note that passes its checks are of its currency and on dates of the calendar
 pub cash-flows-of : (n : Note) (position : Float) (table : List ℕ) (l : List CashFlow) → cashFlows n position table ≡ given l → Every (OfNote n) l × (length l ≤ 3652060)

@@ -9,7 +9,7 @@ use Rattle.paper.specs.Outcome.{given, refused}
 use Rattle.room.specs.Room.{counted, roomAfter}
 use Rattle.cash_flow.specs.declared.CashFlow.{CashFlow}
 use Rattle.bond.specs.Notes.{isNoteNumber, isRate, isPosition, noteChecks}
-use Rattle.bond.proofs.Examples.{on}
+use Rattle.calendar.proofs.Examples.{on}
 use Rattle.bond.proofs.Examples as notes
 use Rattle.rollout.specs.Rollout.{cashFlows}
 use Rattle.rollout.proofs.Examples.{one, twenty, thousand, flow, late, the-listing, past-the-room}

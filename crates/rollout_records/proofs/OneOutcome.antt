@@ -10,7 +10,8 @@ use Rattle.cash_flow.specs.declared.FlowsAnswer.{FlowsAnswer}
 use Rattle.cash_flow.proofs.OneOutcome.{same-flows-answer}
 use Rattle.bond.specs.declared.Note.{Note}
 use Rattle.rollout.specs.Rollout.{cashFlows}
-use Rattle.rollout.proofs.OneOutcome.{fitting-numbered, cash-flows-numbered}
+use Rattle.room.proofs.Fitting.{fitting-numbered}
+use Rattle.rollout.proofs.OneOutcome.{cash-flows-numbered}
 use Rattle.rollout_records.specs.Records.{recordsFitted, RecordsPromise}
 
 -- the answer and the room

@@ -2,18 +2,17 @@
 -- Assumes nothing.
 use Prim.Native.Nat.{ℕ, _+_, _≤_, _<_}
 use mathlib.Core.Path.{_≡_, refl, sym, _∙_, ap, subst}
-use mathlib.Core.List.{List, [], _∷_, _++_, map}
+use mathlib.Core.List.{List, [], _++_, map-id}
 use native.Mathlib.Omega.{arith}
 use lib.ListN.{length, drop, set}
 use lib.Seq.{drop-length}
 use lib.Ieee.{Float}
-use lib.Dec.{leb}
 use denote.Laws.{Is}
 use denote.Struct.Laws as LL
-use borrow.Author.Tests.{leb-true}
 use Rattle.paper.specs.Outcome.{Outcome, given, refused}
-use Rattle.paper.proofs.Outcomes.{given-injective, given-not-refused, unless-given, then-given}
+use Rattle.paper.proofs.Outcomes.{then-given}
 use Rattle.room.specs.Room.{fitting, counted, roomAfter}
+use Rattle.room.proofs.Fitting.{fitting-given}
 use Rattle.room.proofs.Filling.{Filled, filled-none, filled-more, filled-all}
 use Rattle.cash_flow.specs.Flows.{flowsOutcome}
 use Rattle.cash_flow.specs.declared.CashFlow.{CashFlow}
@@ -51,16 +50,6 @@ pub record Rolling (n : Note) (position : Float) (table : List ℕ) (old : List 
   pub within : k ≤ length (toWrite n position table old)
   pub filled : Filled (toWrite n position table old) old k (drop k (toWrite n position table old)) out
   pub next : 256 < length (toWrite n position table old) → k < length (toWrite n position table old) → Dated (paid .next) × (flowsDue n position table (paid .next) ≡ given (drop k (toWrite n position table old)))
-
-fitting-given : (places : ℕ) (o : Outcome (List CashFlow)) (l : List CashFlow) → fitting places o ≡ given l → (o ≡ given l) × (length l ≤ places)
-fitting-given places (given m) l e =
-    let u = unless-given (leb (length m) places) 16 (given m) l e in
-    (u .1, subst (λ (x : List CashFlow). length x ≤ places) (given-injective (u .1)) (leb-true (length m) places (u .0)))
-fitting-given places (refused k) l e = absurd (given-not-refused (sym e))
-
-map-itself : {A : Type 0} (l : List A) → map (λ x. x) l ≡ l
-map-itself [] = refl
-map-itself (x ∷ l) = ap (λ (m : List _). x ∷ m) (map-itself l)
 
 module _ (n : Note) (position : Float) (table : List ℕ) (old : List CashFlow) where
   -- what is to be written are all flows of what was judged
@@ -135,7 +124,7 @@ module _ (n : Note) (position : Float) (table : List ℕ) (old : List CashFlow) 
   written-is (refused k) = refl
 
   after-is : (o : Outcome (List CashFlow)) → flowsOf o ++ drop (length (flowsOf o)) old ≡ roomAfter (λ x. x) o old
-  after-is (given l) = ap (λ (m : List CashFlow). m ++ drop (length l) old) (sym (map-itself l))
+  after-is (given l) = ap (λ (m : List CashFlow). m ++ drop (length l) old) (sym (map-id l))
   after-is (refused k) = refl
 
   module _ (r : FlowsAnswer) (answers : flowsOutcome r ≡ counted (fitting (length old) (cashFlows n position table))) where

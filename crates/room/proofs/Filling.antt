@@ -2,12 +2,13 @@
 -- Assumes nothing.
 use mathlib.Core.Path.{_≡_, refl, sym, ap, ap₂, _∙_, subst}
 use mathlib.Core.List.{List, [], _∷_, _++_, append-nil, map}
-use Prim.Native.Nat.{ℕ, suc, _+_, _≤_, _<_}
+use Prim.Native.Nat.{ℕ, _+_, _≤_, _<_}
 use native.Mathlib.Omega.{arith}
 use native.Mathlib.Numerals.{add-one}
 use lib.ListN.{length, take, drop, set, getD, length-set, length-map, take-append-drop}
-use lib.Seq.{take-suc-set, drop-set-lt, drop-drop, drop-cons, append-snoc, length-take-le, take-append-seam}
+use lib.Seq.{take-suc-set, drop-set-lt, append-snoc, length-take-le, take-at}
 use Rattle.paper.specs.Outcome.{Outcome, given, refused}
+use Rattle.paper.proofs.Lists.{head-at, tails-agree}
 use Rattle.paper.proofs.Outcomes.{given-injective, given-not-refused}
 use Rattle.room.specs.Room.{counted, roomAfter}
 
@@ -25,11 +26,8 @@ module _ {A : Type 0} (whole old : List A) where
   filled-more k x left new h w = record {
     same-length = simp length-set (w .same-length);
     front = rw (add-one, take-suc-set, append-snoc) (w .front);
-    back = rw (add-one, drop-set-lt (suc k) new k x (omega arith)) (tails-of new ∙ ap (drop 1) (w .back) ∙ sym (tails-of old));
+    back = drop-set-lt (k + 1) new k x (omega arith) ∙ tails-agree new old k (k + 1) (omega arith) (w .back);
   }
-    where
-      tails-of : (l : List A) → drop (suc k) l ≡ drop 1 (drop k l)
-      tails-of l = ap (λ (n : ℕ). drop n l) (sym (add-one k)) ∙ sym (drop-drop 1 k l)
 
   pub filled-all : (k : ℕ) (new : List A) → Filled whole old k [] new → new ≡ whole ++ drop k old
   filled-all k new w = sym (take-append-drop k new) ∙ rw (w .back) (ap (λ (l : List A). l ++ drop k old) (sym (append-nil (take k new)) ∙ w .front))
@@ -37,19 +35,13 @@ module _ {A : Type 0} (whole old : List A) where
   -- a loop that copies: what is to come is the rest of the list it copies from
   pub filled-next : (source : List A) (k : ℕ) (d : A) (new : List A) → k < length source → k < length new → Filled whole old k (drop k source) new → Filled whole old (k + 1) (drop (k + 1) source) (set new k (getD source k d))
   filled-next source k d new h l w =
-      filled-more k (getD source k d) (drop (k + 1) source) new l (subst (λ (m : List A). Filled whole old k m new) (drop-cons source k d h ∙ ap (λ (j : ℕ). getD source k d ∷ drop j source) (sym (add-one k))) w)
+      filled-more k (getD source k d) (drop (k + 1) source) new l (subst (λ (m : List A). Filled whole old k m new) (head-at source k d h) w)
 
   -- and where it ends early, as many are copied
   pub filled-part : (k : ℕ) (left new : List A) → k ≤ length new → Filled whole old k left new → new ≡ take k whole ++ drop k old
-  filled-part k left new h w = sym (take-append-drop k new) ∙ ap₂ _++_ (sym front ∙ ap (take k) (w .front)) (w .back)
-    where
-      front : take k (take k new ++ left) ≡ take k new
-      front = subst (λ (j : ℕ). take j (take k new ++ left) ≡ take k new) (length-take-le k new h) (take-append-seam (take k new) left)
+  filled-part k left new h w = sym (take-append-drop k new) ∙ ap₂ _++_ (sym (take-at (take k new) left k (length-take-le k new h)) ∙ ap (take k) (w .front)) (w .back)
 
 -- what stands in front of one room, copied in front of another
 pub room-copied : {A B : Type 0} (part : A → B) (o : Outcome (List A)) (m : ℕ) (kept old : List B) → counted o ≡ given m → take m (roomAfter part o kept) ++ drop m old ≡ roomAfter part o old
-room-copied part (given l) m kept old e = subst (λ (j : ℕ). take j (map part l ++ drop (length l) kept) ++ drop j old ≡ map part l ++ drop (length l) old) (given-injective e) (ap (λ (r : List _). r ++ drop (length l) old) front)
-  where
-    front : take (length l) (map part l ++ drop (length l) kept) ≡ map part l
-    front = subst (λ (j : ℕ). take j (map part l ++ drop (length l) kept) ≡ map part l) (length-map l part) (take-append-seam (map part l) (drop (length l) kept))
+room-copied part (given l) m kept old e = subst (λ (j : ℕ). take j (map part l ++ drop (length l) kept) ++ drop j old ≡ map part l ++ drop (length l) old) (given-injective e) (ap (λ (r : List _). r ++ drop (length l) old) (take-at (map part l) (drop (length l) kept) (length l) (length-map l part)))
 room-copied part (refused n) m kept old e = absurd (given-not-refused (sym e))

@@ -10,4 +10,5 @@ pub mod CloseLaws
 pub mod Range
 pub mod Zero
 pub mod Gap
+pub mod Fields
 pub mod LawExamples

@@ -1,10 +1,10 @@
 -- Where the code's test `x == 0.0` holds of a computed float: never where the exact fraction is farther from 0 than the error, always where the fraction is 0 and the error too.
 -- Assumes nothing.
-use mathlib.Core.Path.{_≡_, refl, sym, ap}
+use mathlib.Core.Path.{_≡_, sym, ap}
 use Prim.Native.Nat.{ℕ, _+_, _*_, _^_, _≤_, _<_}
 use native.Mathlib.Nat.{le-of-eq, not-le-of-lt, le-of-mul-le-mul-left, le-of-mul-le-mul-right, eq-of-mul-eq-mul-right}
 use native.Mathlib.Omega.{arith}
-use mathlib.Core.Bool.{Bool, true, false, _||_, Bool·beq}
+use mathlib.Core.Bool.{Bool, true, false, or-true, Bool·beq}
 use borrow.Author.Tests.{eq-eqb, ne-eqb}
 use lib.IntN.{ℤ, natAbs}
 use lib.Ieee.{Float, nan, inf, fin, binary64, up, down, eq, ofBits}
@@ -19,11 +19,7 @@ use Rattle.rounding.proofs.CloseLaws.{within-apart}
 -- the test is that of the size
 zero-where : (s : Bool) (m : ℕ) (e : ℤ) → m * up e ≡ 0 → eq (fin s m e) (ofBits binary64 0) ≡ true
 unfolding eq ofBits
-zero-where s m e h = rw (eq-eqb (m * up e * 1) (0 * 1 * down e) (omega arith), eq-eqb (m * up e * 1) 0 (omega arith)) (last (Bool·beq s false))
-  where
-    last : (b : Bool) → (b || true) ≡ true
-    last false = refl
-    last true = refl
+zero-where s m e h = rw (eq-eqb (m * up e * 1) (0 * 1 * down e) (omega arith), eq-eqb (m * up e * 1) 0 (omega arith)) (or-true (Bool·beq s false))
 
 nonzero-where : (s : Bool) (m : ℕ) (e : ℤ) → (m * up e ≡ 0 → ⊥) → eq (fin s m e) (ofBits binary64 0) ≡ false
 unfolding eq ofBits

@@ -11,9 +11,10 @@ use lib.IntN.{ℤ, natAbs}
 use lib.Dec.{leb}
 use borrow.Author.Tests.{le-leb, lt-leb}
 use Rattle.paper.specs.Outcome.{given, refused, Numbered}
+use Rattle.paper.proofs.Numbers.{lt-or-le}
 use Rattle.paper.proofs.Outcomes.{given-injective, given-not-refused, unless-numbered}
 use Rattle.text.specs.Writing.{digits, places, decimalText, paddedText, isNegative, signText, signedText, rightAligned, put, Wrote, writtenLength, writtenBytes, Written}
-use Rattle.text_lengths.proofs.Digits.{lt-or-le, places-some, length-decimal, length-padded}
+use Rattle.text_lengths.proofs.Digits.{places-some, length-decimal, length-padded}
 use Rattle.text_lengths.proofs.Signs.{length-signed}
 use Rattle.text.proofs.Putting.{put-text, wrote-then}
 

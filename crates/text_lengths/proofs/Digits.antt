@@ -1,25 +1,20 @@
 -- Laws of the digits of a number: how many there are, what they are worth, and how they fall into parts. Assumes nothing.
 use Prim.Native.Nat.{ℕ, zero, suc, _+_, _-_, _*_, _/_, _%_, _^_, _≤_, _<_, max}
 use mathlib.Core.Path.{_≡_, refl, sym, ap, _∙_}
-use mathlib.Core.Bool.{Bool, true, false}
-use mathlib.Core.List.{List, [], _∷_, _++_, append-assoc, append-nil}
-use mathlib.Core.Logic.{_⊎_, inl, inr, ⊎-elim}
-use native.Mathlib.Nat.{pow-suc, pow-zero, div-one, add-zero, div-div-eq-div-mul, mod-eq-of-lt, div-eq-of-lt, mul-comm, add-suc}
-use native.Mathlib.Numerals.{add-one, one-add}
+use mathlib.Core.Bool.{true}
+use mathlib.Core.List.{List, [], _∷_, _++_}
+use mathlib.Core.Logic.{⊎-elim}
+use native.Mathlib.Nat.{pow-suc, mod-eq-of-lt, div-eq-of-lt}
+use native.Mathlib.Numerals.{add-one}
 use native.Mathlib.Omega.{arith}
-use lib.Arith.{mod-mul}
-use lib.ListN.{length, replicate, length-append, replicate-append-replicate}
+use lib.ListN.{length, replicate, replicate-append-replicate}
 use borrow.Author.Tests.{lt-ltb, le-ltb}
-use Rattle.paper.specs.Outcome.{both}
+use Rattle.paper.proofs.Numbers.{lt-or-le}
+use Rattle.paper.proofs.Outcomes.{both-true}
 use Rattle.reading.specs.Reading.{isDigit, allDigits, isDecimal, continued, decimalValue}
 use Rattle.text_lengths.specs.NumberTexts.{digits, placesWithin, places, decimalText, paddedText}
-use Rattle.reading.proofs.Decimals.{digit-yes}
-
-pub lt-or-le : (a b : ℕ) → (a < b) ⊎ (b ≤ a)
-lt-or-le zero zero = inr (omega arith)
-lt-or-le zero (suc b) = inl (omega arith)
-lt-or-le (suc a) zero = inr (omega arith)
-lt-or-le (suc a) (suc b) = ⊎-elim (λ p. inl (omega arith)) (λ q. inr (omega arith)) (lt-or-le a b)
+use Rattle.reading.proofs.Decimals.{digit-yes, digit-bounds}
+use Rattle.text_lengths.proofs.Numerals.{numeral, worth, AreDigits, length-numeral, numeral-are, numeral-split, numeral-first, worth-numeral}
 
 -- ---- induction: what holds below ten, and of n where it holds of n / 10, holds of every number
 
@@ -29,6 +24,31 @@ tens P few more (suc steps) n h = ⊎-elim (λ l. few n l) (λ l. more n l (tens
 
 pub by-tens : (P : ℕ → Type 0) → ((n : ℕ) → n < 10 → P n) → ((n : ℕ) → 10 ≤ n → P (n / 10) → P n) → (n : ℕ) → P n
 by-tens P few more n = tens P few more n n (omega arith)
+
+-- ---- digits are numerals to the base ten, from the byte '0' on
+
+pub digits-numeral : (k n : ℕ) → digits k n ≡ numeral 10 48 k n
+unfolding digits numeral
+digits-numeral zero n = refl
+digits-numeral (suc k) n = rw (digits-numeral k (n / 10))
+
+pub continued-worth : (v : ℕ) (s : List ℕ) → continued v s ≡ worth 10 48 v s
+unfolding continued worth
+continued-worth v [] = refl
+continued-worth v (b ∷ s) = continued-worth (v * 10 + (b - 48)) s
+
+are-all : (s : List ℕ) → AreDigits 10 48 s → allDigits s ≡ true
+unfolding allDigits
+are-all [] h = refl
+are-all (b ∷ s) h = rw (digit-yes b (h .0 .0) (omega arith), are-all s (h .1))
+
+pub all-are : (s : List ℕ) → allDigits s ≡ true → AreDigits 10 48 s
+unfolding allDigits
+all-are [] e = omega arith
+all-are (b ∷ s) e =
+    let q = both-true (isDigit b) (allDigits s) e in
+    let r = digit-bounds b (q .0) in
+    ((r .0, omega arith), all-are s (q .1))
 
 -- ---- how many digits a number needs
 
@@ -85,9 +105,7 @@ places-least (suc k) n h l =
 -- ---- how long their text is
 
 pub length-digits : (k n : ℕ) → length (digits k n) ≡ k
-unfolding digits
-length-digits zero n = refl
-length-digits (suc k) n = omega (arith, length-append (digits k (n / 10)) ((48 + n % 10) ∷ []), length-digits k (n / 10))
+length-digits k n = rw (digits-numeral k n) (length-numeral 10 48 k n)
 
 pub length-decimal : (n : ℕ) → length (decimalText n) ≡ places n
 unfolding decimalText
@@ -103,34 +121,8 @@ length-padded width n = length-digits (max width (places n)) n
 
 -- ---- what they are worth
 
-pub continued-append : (v : ℕ) (s t : List ℕ) → continued v (s ++ t) ≡ continued (continued v s) t
-unfolding continued
-continued-append v [] t = refl
-continued-append v (b ∷ s) t = continued-append (v * 10 + (b - 48)) s t
-
-both-assoc : (a b c : Bool) → both (both a b) c ≡ both a (both b c)
-both-assoc true b c = refl
-both-assoc false b c = refl
-
-pub all-append : (s t : List ℕ) → allDigits (s ++ t) ≡ both (allDigits s) (allDigits t)
-unfolding allDigits
-all-append [] t = refl
-all-append (b ∷ s) t = rw (all-append s t, both-assoc (isDigit b) (allDigits s) (allDigits t))
-
-all-one : (b : ℕ) → isDigit b ≡ true → allDigits (b ∷ []) ≡ true
-unfolding allDigits
-all-one b e = rw (e)
-
-continued-one : (v b : ℕ) → continued v (b ∷ []) ≡ v * 10 + (b - 48)
-unfolding continued
-continued-one v b = refl
-
 pub digits-all : (k n : ℕ) → allDigits (digits k n) ≡ true
-unfolding digits allDigits
-digits-all zero n = refl
-digits-all (suc k) n =
-    all-append (digits k (n / 10)) ((48 + n % 10) ∷ [])
-    ∙ rw (digits-all k (n / 10), all-one (48 + n % 10) (digit-yes (48 + n % 10) (omega arith) (omega arith)))
+digits-all k n = rw (digits-numeral k n) (are-all (numeral 10 48 k n) (numeral-are 10 48 (omega arith) k n))
 
 decimal-some : (s : List ℕ) → 1 ≤ length s → allDigits s ≡ true → isDecimal s ≡ true
 unfolding isDecimal
@@ -140,17 +132,8 @@ decimal-some (b ∷ s) h e = e
 pub digits-decimal : (k n : ℕ) → 1 ≤ k → isDecimal (digits k n) ≡ true
 digits-decimal k n h = decimal-some (digits k n) (omega (arith, length-digits k n)) (digits-all k n)
 
-pub pow-some : (k : ℕ) → 0 < 10 ^ k
-pow-some zero = omega arith
-pow-some (suc k) = omega (arith, pow-suc 10 k, pow-some k)
-
 pub value-digits : (k n : ℕ) → decimalValue (digits k n) ≡ n % 10 ^ k
-unfolding digits continued
-value-digits zero n = omega (arith, pow-zero 10)
-value-digits (suc k) n =
-    continued-append 0 (digits k (n / 10)) ((48 + n % 10) ∷ [])
-    ∙ continued-one (decimalValue (digits k (n / 10))) (48 + n % 10)
-    ∙ rw (value-digits k (n / 10), pow-suc 10 k, mod-mul n {m = 10 ^ k} {c = 10} (pow-some k) (omega arith)) (omega arith)
+value-digits k n = rw (digits-numeral k n, continued-worth 0 (numeral 10 48 k n)) (worth-numeral 10 48 (omega arith) k n)
 
 -- all of n, where k digits are enough
 pub value-whole : (k n : ℕ) → n < 10 ^ k → decimalValue (digits k n) ≡ n
@@ -163,27 +146,12 @@ pub digits-last : (k n : ℕ) → digits (suc k) n ≡ digits k (n / 10) ++ ((48
 unfolding digits
 digits-last k n = refl
 
-split-more : (a b n : ℕ) → digits (a + b) (n / 10) ≡ digits a (n / 10 / 10 ^ b) ++ digits b (n / 10) → digits (suc (a + b)) n ≡ digits a (n / 10 ^ suc b) ++ digits (suc b) n
-unfolding digits
-split-more a b n e =
-    let p : n / 10 / 10 ^ b ≡ n / 10 ^ suc b = div-div-eq-div-mul n 10 (10 ^ b) ∙ ap (λ (x : ℕ). n / x) (mul-comm 10 (10 ^ b) ∙ sym (pow-suc 10 b)) in
-    rw (e, p) (append-assoc (digits a (n / 10 ^ suc b)) (digits b (n / 10)) ((48 + n % 10) ∷ []))
-
-split-none : (a n : ℕ) → digits a n ≡ digits a (n / 10 ^ 0) ++ digits 0 n
-unfolding digits
-split-none a n = ap (digits a) (sym (div-one n)) ∙ sym (append-nil (digits a (n / 10 ^ 0)))
-
 pub digits-split : (a b n : ℕ) → digits (a + b) n ≡ digits a (n / 10 ^ b) ++ digits b n
-digits-split a zero n = rw (add-zero a) (split-none a n)
-digits-split a (suc b) n = rw (add-suc a b) (split-more a b n (digits-split a b (n / 10)))
-
-digit-one : (n : ℕ) → digits 1 n ≡ (48 + n % 10) ∷ []
-unfolding digits
-digit-one n = refl
+digits-split a b n = simp digits-numeral (numeral-split 10 48 a b n)
 
 -- the first one apart
 pub digits-first : (k n : ℕ) → digits (suc k) n ≡ (48 + n / 10 ^ k % 10) ∷ digits k n
-digits-first k n = rw (← one-add k) (digits-split 1 k n ∙ rw (digit-one (n / 10 ^ k)))
+digits-first k n = simp digits-numeral (numeral-first 10 48 k n)
 
 pub replicate-more : (k b : ℕ) → replicate k b ++ (b ∷ []) ≡ replicate (suc k) b
 replicate-more k b = replicate-append-replicate k 1 b ∙ rw (add-one)

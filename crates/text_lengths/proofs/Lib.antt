@@ -1,4 +1,5 @@
 pub mod Signs
+pub mod Numerals
 pub mod Digits
 pub mod Shortest
 pub mod RoundTrips

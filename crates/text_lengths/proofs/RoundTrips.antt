@@ -1,7 +1,7 @@
 -- What is written can be read: the text of a number, read back, is that number. Assumes nothing.
 use Prim.Native.Nat.{ℕ, suc, _≤_, _<_, _^_, max}
 use mathlib.Core.Path.{_≡_}
-use mathlib.Core.Bool.{true, false}
+use mathlib.Core.Bool.{true, false, false≢true}
 use mathlib.Core.List.{List, [], _∷_}
 use native.Mathlib.Nat.{lt-of-lt-of-le, pow-le-pow-right}
 use native.Mathlib.Omega.{arith}
@@ -19,7 +19,7 @@ use Rattle.text_lengths.proofs.Digits.{digits-decimal, value-whole, pla
 -- a decimal has no sign before it
 begins-digit : (c : ℕ) (s : List ℕ) → c < 48 → isDecimal s ≡ true → begins c s ≡ false
 unfolding isDecimal allDigits begins
-begins-digit c [] h e = let z : _≡_ {A = ℕ} 0 1 = cc in absurd (omega arith)
+begins-digit c [] h e = absurd (false≢true e)
 begins-digit c (b ∷ s) h e = ne-eqb b c (λ q. omega (arith, digit-bounds b (both-true (isDigit b) (allDigits s) e .0)))
 
 no-plus-before : (s : List ℕ) → isDecimal s ≡ true → afterPlus s ≡ s

@@ -1,63 +1,22 @@
 -- The text of a number is the shortest decimal of that value, and the only one so short. Assumes nothing.
-use Prim.Native.Nat.{ℕ, suc, _+_, _-_, _*_, _/_, _%_, _^_, _≤_, _<_, max}
-use mathlib.Core.Path.{_≡_, refl, sym, ap, _∙_}
-use mathlib.Core.Bool.{true}
+use Prim.Native.Nat.{ℕ, _^_, _≤_, _<_, max}
+use mathlib.Core.Path.{_≡_, refl, _∙_}
+use mathlib.Core.Bool.{true, false≢true}
 use mathlib.Core.List.{List, [], _∷_}
-use native.Mathlib.Nat.{pow-suc, add-mul, mul-assoc, mul-comm, mul-le-mul-right}
 use native.Mathlib.Omega.{arith}
-use lib.Arith.{digits-div}
 use lib.ListN.{length}
-use Rattle.paper.proofs.Outcomes.{both-true}
-use Rattle.reading.specs.Reading.{isDigit, allDigits, isDecimal, continued, decimalValue}
+use Rattle.reading.specs.Reading.{allDigits, isDecimal, decimalValue}
 use Rattle.text_lengths.specs.NumberTexts.{digits, places, decimalText, paddedText}
-use Rattle.reading.proofs.Decimals.{digit-bounds}
-use Rattle.text_lengths.proofs.Digits.{length-decimal, places-least, places-some, digits-first, digits-decimal, value-whole, places-enough}
+use Rattle.text_lengths.proofs.Numerals.{worth, worth-below, numeral-worth}
+use Rattle.text_lengths.proofs.Digits.{digits-numeral, continued-worth, all-are, length-decimal, places-least, places-some, digits-decimal, value-whole, places-enough}
 
--- ---- a decimal by its first digit
-
-pub continued-value : (v : ℕ) (s : List ℕ) → continued v s ≡ v * 10 ^ length s + decimalValue s
-unfolding continued
-continued-value v [] = omega arith
-continued-value v (b ∷ s) =
-    let d : ℕ = b - 48 in
-    let p : ℕ = 10 ^ length s in
-    let zero-first : 0 * 10 + d ≡ d = omega arith in
-    let rest : continued (0 * 10 + d) s ≡ d * p + decimalValue s = continued-value (0 * 10 + d) s ∙ rw (zero-first) in
-    let shifted : v * 10 * p ≡ v * 10 ^ suc (length s) = mul-assoc v 10 p ∙ ap (λ (x : ℕ). v * x) (mul-comm 10 p ∙ sym (pow-suc 10 (length s))) in
-    omega (arith, continued-value (v * 10 + d) s, rest, shifted, add-mul (v * 10) d p)
-
-parts : (b : ℕ) (s : List ℕ) → allDigits (b ∷ s) ≡ true → (isDigit b ≡ true) × (allDigits s ≡ true)
-unfolding allDigits
-parts b s e = both-true (isDigit b) (allDigits s) e
-
-first-value : (b : ℕ) (s : List ℕ) → decimalValue (b ∷ s) ≡ (b - 48) * 10 ^ length s + decimalValue s
-unfolding continued
-first-value b s = let e : 0 * 10 + (b - 48) ≡ b - 48 = omega arith in ap (λ (v : ℕ). continued v s) e ∙ continued-value (b - 48) s
+-- ---- a decimal and its value
 
 pub value-below : (s : List ℕ) → allDigits s ≡ true → decimalValue s < 10 ^ length s
-unfolding continued
-value-below [] e = omega arith
-value-below (b ∷ s) e =
-    let q = parts b s e in
-    let r = digit-bounds b (q .0) in
-    let most : (b - 48) * 10 ^ length s ≤ 9 * 10 ^ length s = mul-le-mul-right (10 ^ length s) (omega arith) in
-    omega (arith, first-value b s, value-below s (q .1), most, pow-suc 10 (length s))
-
--- ---- digits are the digits of their value
-
-digits-behind : (v : ℕ) (s : List ℕ) → allDigits s ≡ true → digits (length s) (continued v s) ≡ s
-unfolding continued digits
-digits-behind v [] e = refl
-digits-behind v (b ∷ s) e =
-    let q = parts b s e in
-    let r = digit-bounds b (q .0) in
-    let w : ℕ = v * 10 + (b - 48) in
-    let high : continued w s / 10 ^ length s ≡ w = ap (λ (x : ℕ). x / 10 ^ length s) (continued-value w s) ∙ digits-div w (value-below s (q .1)) in
-    let first : 48 + w % 10 ≡ b = omega arith in
-    digits-first (length s) (continued w s) ∙ rw (high, first, digits-behind w s (q .1))
+value-below s e = rw (continued-worth 0 s) (worth-below 10 48 s (all-are s e))
 
 pub digits-only : (s : List ℕ) → allDigits s ≡ true → s ≡ digits (length s) (decimalValue s)
-digits-only s e = sym (digits-behind 0 s e)
+digits-only s e = rw (continued-worth 0 s, digits-numeral (length s) (worth 10 48 0 s), numeral-worth 10 48 0 s (all-are s e))
 
 all-of : (s : List ℕ) → isDecimal s ≡ true → allDigits s ≡ true
 unfolding isDecimal allDigits
@@ -66,7 +25,7 @@ all-of (b ∷ s) e = e
 
 some-of : (s : List ℕ) → isDecimal s ≡ true → 1 ≤ length s
 unfolding isDecimal
-some-of [] e = let z : _≡_ {A = ℕ} 0 1 = cc in absurd (omega arith)
+some-of [] e = absurd (false≢true e)
 some-of (b ∷ s) e = omega arith
 
 -- ---- the shortest decimal

@@ -1,9 +1,8 @@
 -- Laws of the sign and the magnitude of a number, and of its text with the sign. Assumes nothing.
 use Prim.Native.Nat.{ℕ, zero, suc, _+_, _≤_}
 use mathlib.Core.Path.{_≡_, refl, sym}
-use mathlib.Core.Bool.{Bool, true, false}
+use mathlib.Core.Bool.{Bool, true, false, false≢true, true≢false}
 use native.Mathlib.Omega.{arith}
-use native.Mathlib.Nat.{lt-trans}
 use lib.ListN.{length, length-append}
 use lib.IntN.{ℤ, pos, negsuc, negℤ, natAbs, _-ℤ_, +ℤ-idl}
 use lib.Signed.{ltZ, nonNeg}
@@ -14,10 +13,6 @@ use mir.Facts.{toZ-ofZ}
 use borrow.Author.Tests.{le-ltb}
 use Rattle.text_lengths.specs.NumberTexts.{decimalText, isNegative, signText, signedText}
 use Rattle.text_lengths.proofs.Digits.{decimal-within}
-
--- a number of 32 bits is the same number in 64
-pub wide : (z : ℤ) → SFits w32 z → SFits w64 z
-wide z f = record { sfits = lt-trans (f .sfits) (lit< tt) }
 
 pub below-negative : (z : ℤ) → ltZ z (pos 0) ≡ isNegative z
 below-negative (pos n) = le-ltb n 0 (omega arith)
@@ -37,12 +32,12 @@ minus-fits (pos (suc n)) f = record { sfits = omega (arith, f .sfits) }
 minus-fits (negsuc n) f = record { sfits = omega (arith, f .sfits) }
 
 pub minus-above : (z : ℤ) → isNegative z ≡ true → T (nonNeg (negℤ z))
-minus-above (pos n) e = let w : _≡_ {A = ℕ} 0 1 = cc in absurd (omega arith)
+minus-above (pos n) e = absurd (false≢true e)
 minus-above (negsuc n) e = tt
 
 pub not-below : (z : ℤ) → isNegative z ≡ false → T (nonNeg z)
 not-below (pos n) e = tt
-not-below (negsuc n) e = let w : _≡_ {A = ℕ} 0 1 = cc in absurd (omega arith)
+not-below (negsuc n) e = absurd (true≢false e)
 
 pub abs-most : (z : ℤ) → SFits w32 z → natAbs z ≤ 2147483648
 abs-most (pos n) f = omega (arith, f .sfits)
@@ -58,7 +53,7 @@ pub length-signed : (z : ℤ) → length (signedText z) ≡ length (signText (is
 unfolding signedText
 length-signed z = length-append (signText (isNegative z)) (decimalText (natAbs z))
 
-sign-within : (g : Bool) → length (signText g) ≤ 1
+pub sign-within : (g : Bool) → length (signText g) ≤ 1
 sign-within true = omega arith
 sign-within false = omega arith
 

@@ -8,7 +8,7 @@ use Rattle.time_period.specs.declared.TimePeriodUnit.{TimePeriodUnit}
 use Rattle.time_period.specs.declared.TimePeriodUnit.the-variants.{Daily, Monthly, Annual}
 use Rattle.time_period.specs.declared.TimePeriod.{TimePeriod}
 
-abbrev of : ℤ → TimePeriodUnit → TimePeriod
+abbrev pub of : ℤ → TimePeriodUnit → TimePeriod
 of n u = record { num = n; unit = u }
 
 pub record Yearly : Type 0 where

@@ -98,7 +98,7 @@ frequent p =
 pub regular-period : (p : TimePeriod) (f : ℕ) → ltZ (p .num) (pos 1) ≡ false → frequencyOf p ≡ given f → (n : ℕ) × (p .num ≡ pos n) × Regular (p .unit) n f
 regular-period p f h e =
     let a = above (p .num) (positive (p .num) h) in
-    (a .0, a .1, rw (a .1) at (frequent p .regular f e))
+    (natAbs (p .num), a .0, rw (a .0) at (frequent p .regular f e))
 
 -- the months of a regular period, f of which make the year
 abbrev pub monthsIn : TimePeriodUnit → ℕ → ℕ

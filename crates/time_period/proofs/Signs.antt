@@ -2,7 +2,7 @@
 -- Assumes nothing.
 use Prim.Native.Nat.{ℕ, zero, suc, _+_, _-_, _*_, _^_, _≤_, _<_}
 use mathlib.Core.Path.{_≡_, refl, sym, _∙_, ap, subst}
-use mathlib.Core.Bool.{true, false}
+use mathlib.Core.Bool.{true, false, false≢true, true≢false}
 use mathlib.Core.List.{List}
 use native.Mathlib.Omega.{arith}
 use native.Mathlib.Decide.{decLt}
@@ -15,7 +15,8 @@ use borrow.Author.Tests.{eq-eqb, ne-eqb, lt-ltb, ltb-true, ltb-false}
 use Rattle.text.specs.Writing.{isNegative}
 use Rattle.holidays.specs.Business.{laterFrom, earlierFrom}
 use Rattle.time_period.specs.Steps.{isLeast, businessDay}
-use Rattle.date_step.proofs.Landing.{sum-below, sum-above, widened}
+use Rattle.paper.proofs.Numbers.{widened}
+use Rattle.date_step.proofs.Landing.{sum-below, sum-above}
 
 -- what is told of a struct's number
 pub told : (z : ℤ) → mag z < 2 ^ 31 → SFits w32 z
@@ -77,23 +78,23 @@ module _ (z : ℤ) (f : SFits w32 z) where
 
 module _ (h : List ℕ) (d k : ℕ) where
   pub business-back : (z : ℤ) → isNegative z ≡ true → k ≡ natAbs z → earlierFrom h k d ≡ businessDay h z d
-  business-back (pos n) e m = absurd (let w : _≡_ {A = ℕ} 0 1 = cc in omega arith)
+  business-back (pos n) e m = absurd (false≢true e)
   business-back (negsuc n) e m = ap (λ (j : ℕ). earlierFrom h j d) m
 
   pub business-on : (z : ℤ) → isNegative z ≡ false → k ≡ natAbs z → laterFrom h k d ≡ businessDay h z d
   business-on (pos n) e m = ap (λ (j : ℕ). laterFrom h j d) m
-  business-on (negsuc n) e m = absurd (let w : _≡_ {A = ℕ} 0 1 = cc in omega arith)
+  business-on (negsuc n) e m = absurd (true≢false e)
 
 -- ---- above zero and below
 
 -- a code's test for a number of at least 1
 pub positive : (z : ℤ) → ltZ z (pos 1) ≡ false → ltZ (pos 0) z ≡ true
 positive (pos n) e = lt-ltb 0 n (omega (arith, ltb-false n 1 e))
-positive (negsuc n) e = absurd (let w : _≡_ {A = ℕ} 0 1 = cc in omega arith)
+positive (negsuc n) e = absurd (true≢false e)
 
 pub seven-on : (z : ℤ) → ltZ (pos 0) z ≡ true → ltZ (pos 0) (pos 7 *ℤ z) ≡ true
 seven-on (pos n) e = lt-ltb 0 (7 * n) (omega (arith, ltb-true 0 n e))
-seven-on (negsuc n) e = absurd (let w : _≡_ {A = ℕ} 0 1 = cc in omega arith)
+seven-on (negsuc n) e = absurd (false≢true e)
 
 pub seven-back : (z : ℤ) → ltZ z (pos 0) ≡ true → ltZ (pos 7 *ℤ z) (pos 0) ≡ true
 seven-back (pos n) e = absurd (omega (arith, ltb-true n 0 e))
@@ -102,20 +103,20 @@ seven-back (negsuc n) e = rw (negated-is (7 * suc n) (omega arith))
 pub negative-back : (z : ℤ) → ltZ (pos 0) z ≡ true → ltZ (negℤ z) (pos 0) ≡ true
 negative-back (pos zero) e = absurd (omega (arith, ltb-true 0 0 e))
 negative-back (pos (suc n)) e = refl
-negative-back (negsuc n) e = absurd (let w : _≡_ {A = ℕ} 0 1 = cc in omega arith)
+negative-back (negsuc n) e = absurd (false≢true e)
 
-pub above : (z : ℤ) → ltZ (pos 0) z ≡ true → (k : ℕ) × (z ≡ pos k) × (1 ≤ k)
-above (pos n) e = (n, refl, omega (arith, ltb-true 0 n e))
-above (negsuc n) e = absurd (let w : _≡_ {A = ℕ} 0 1 = cc in omega arith)
+pub above : (z : ℤ) → ltZ (pos 0) z ≡ true → (z ≡ pos (natAbs z)) × (1 ≤ natAbs z)
+above (pos n) e = (refl, ltb-true 0 n e)
+above (negsuc n) e = absurd (false≢true e)
 
-pub below : (z : ℤ) → ltZ z (pos 0) ≡ true → (k : ℕ) × (z ≡ negsuc k)
+pub below : (z : ℤ) → ltZ z (pos 0) ≡ true → (z ≡ negsuc (natAbs z - 1)) × (1 ≤ natAbs z)
 below (pos n) e = absurd (omega (arith, ltb-true n 0 e))
-below (negsuc n) e = (n, refl)
+below (negsuc n) e = (ap negsuc (omega arith), omega arith)
 
 -- a sum with a number above zero is more, and with one below it less
 pub moved-on : (a b : ℕ) (z : ℤ) → ltZ (pos 0) z ≡ true → pos a +ℤ z ≡ pos b → a < b
 moved-on a b (pos n) e s = let q : a + n ≡ b = cc in omega (arith, ltb-true 0 n e)
-moved-on a b (negsuc n) e s = absurd (let w : _≡_ {A = ℕ} 0 1 = cc in omega arith)
+moved-on a b (negsuc n) e s = absurd (false≢true e)
 
 pub moved-back : (a b : ℕ) (z : ℤ) → ltZ z (pos 0) ≡ true → pos a +ℤ z ≡ pos b → b < a
 moved-back a b (pos n) e s = absurd (omega (arith, ltb-true n 0 e))

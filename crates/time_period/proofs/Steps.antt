@@ -1,8 +1,8 @@
 -- Where a step leads: to a date of the calendar, later for a number above zero and earlier for one below; and what each unit keeps.
 -- Assumes nothing.
-use Prim.Native.Nat.{ℕ, suc, _≤_, _<_}
+use Prim.Native.Nat.{ℕ, suc, _-_, _≤_, _<_}
 use mathlib.Core.Path.{_≡_, sym, _∙_, ap, subst}
-use mathlib.Core.Bool.{Bool, true, false}
+use mathlib.Core.Bool.{Bool, true, false, false≢true}
 use mathlib.Core.List.{List}
 use native.Mathlib.Omega.{arith}
 use lib.Dec.{leb}
@@ -14,7 +14,7 @@ use Rattle.calendar.specs.Dates.{isDate, isDay, dayNumber, theDate, monthIndex,
 use Rattle.calendar.specs.Answers.{dateOf}
 use Rattle.calendar.specs.declared.Day.{Day}
 use Rattle.calendar.specs.declared.Date.{Date}
-use Rattle.calendar.proofs.Dates.{IsDate, date-yes, day-yes, day-is, number-from, number-to, date-found, the-date-is, number-found}
+use Rattle.calendar.proofs.Dates.{IsDate, date-yes, date-is, day-yes, day-is, number-from, number-to, date-found, the-date-is, number-found}
 use Rattle.calendar.proofs.Order.{month-order}
 use Rattle.date_step.specs.Steps.{landing, monthsLater, addMonths, existingDate, yearsLater, addYears, daysLater, addDays}
 use Rattle.holidays.specs.Business.{on, isBusiness}
@@ -115,12 +115,12 @@ module _ (n : ℤ) (t u : Date) where
 business-later-day : (h : List ℕ) (d e : ℕ) (n : ℤ) → ltZ (pos 0) n ≡ true → businessDay h n d ≡ given (on e) → d < e
 business-later-day h d e n s g =
     let a = above n s in
-    later-gives h (a .0) d (on e) (a .2) (ap (λ (z : ℤ). businessDay h z d) (sym (a .1)) ∙ g) .later
+    later-gives h (natAbs n) d (on e) (a .1) (ap (λ (z : ℤ). businessDay h z d) (sym (a .0)) ∙ g) .later
 
 business-earlier-day : (h : List ℕ) (d e : ℕ) (n : ℤ) → ltZ n (pos 0) ≡ true → businessDay h n d ≡ given (on e) → e < d
 business-earlier-day h d e n s g =
     let a = below n s in
-    earlier-gives h (suc (a .0)) d (on e) (omega arith) (ap (λ (z : ℤ). businessDay h z d) (sym (a .1)) ∙ g) .earlier
+    earlier-gives h (suc (natAbs n - 1)) d (on e) (omega arith) (ap (λ (z : ℤ). businessDay h z d) (sym (a .0)) ∙ g) .earlier
 
 module _ (n : ℤ) (t u : Date) where
   business-later-date : (h : Holidays) → ltZ (pos 0) n ≡ true → businessStep n h t ≡ given u → LaterDate t u
@@ -189,6 +189,13 @@ module _ (p : TimePeriod) (h : Holidays) (t u : Date) (d : isDate t ≡ true) (e
         business = λ q l r. business-step l (p .num) t u (ap (λ (g : Holidays). businessStep (p .num) g t) (sym r) ∙ of-unit BusinessDaily q);
       }
 
+-- without a table: a date of the calendar, later by a number above zero and earlier by one below
+pub step-later : (p : TimePeriod) (t u : Date) → isDate t ≡ true → ltZ (pos 0) (p .num) ≡ true → stepped p absent t ≡ given u → (isDate u ≡ true) × (dayNumber t < dayNumber u)
+step-later p t u d h e = let s = step-leads p absent t u d e in (date-is u (s .dated), s .later h)
+
+pub step-earlier : (p : TimePeriod) (t u : Date) → isDate t ≡ true → ltZ (p .num) (pos 0) ≡ true → stepped p absent t ≡ given u → (isDate u ≡ true) × (dayNumber u < dayNumber t)
+step-earlier p t u d h e = let s = step-leads p absent t u d e in (date-is u (s .dated), s .earlier h)
+
 -- ---- refused
 
 -- nothing but 1 is refused
@@ -223,7 +230,7 @@ only-business h (negsuc k) d m e = earlier-refuses h (suc k) d m e
 unit-refuses : (v : TimePeriodUnit) (n : ℤ) (h : Holidays) (t : Date) → served v h ≡ true → OnlyOne (unitStep v n h t)
 unfolding businessStep monthsLater yearsLater existingDate
 unit-refuses Daily n h t s = only-days t n
-unit-refuses BusinessDaily n absent t s = absurd (let w : _≡_ {A = ℕ} 0 1 = cc in omega arith)
+unit-refuses BusinessDaily n absent t s = absurd (false≢true s)
 unit-refuses BusinessDaily n (table h) t s = only-then (businessDay h n (dayNumber t)) dateOf (only-business h n (dayNumber t)) only-date
 unit-refuses Weekly n h t s = only-days t (pos 7 *ℤ n)
 unit-refuses Monthly n h t s = only-then (landing 119987 (pos (monthIndex t) +ℤ n)) (λ i. given (monthDate i (t .day))) (only-landing _ _) (λ i m e. absurd (given-not-refused e))

@@ -1,7 +1,8 @@
 -- `big_digits::power_of_two` meets its contract: the shifted one does not wrap.
 -- Assumes nothing.
 use borrow.Author.Needs.{needs}
-use Rattle.big_digits.proofs.Multiplying.{shifted-one}
+use native.Mathlib.Omega.{arith}
+use Rattle.paper.proofs.Numbers.{shifted-one}
 use Rattle.big_digits.proofs.power_of_two.Statement.{statement}
 use Rattle.big_digits.proofs.power_of_two.Tie as tie
 
@@ -9,7 +10,7 @@ shl-result : tie.Need-shl-result
 shl-result c = search needs
 
 returns : tie.Need-returns
-returns c = shifted-one _ (c .pre)
+returns c = shifted-one _ (omega (arith, c .pre))
 
 pub power-of-two-spec : {M : Type 1} → statement M
 power-of-two-spec = tie.close (tie.spec shl-result returns)

@@ -9,7 +9,7 @@ use mir.Val.{SFits, toZ, ofZ}
 use mir.Facts.{toZ-ofZ}
 use borrow.Author.Needs.{needs}
 use borrow.Author.Tests.{not-true, not-false}
-use Rattle.day_count_conv.proofs.Numbers.{below-one, from-one}
+use Rattle.paper.proofs.Numbers.{at-most, not-at-most}
 use Rattle.bond.specs.Notes.{periodChecks}
 use Rattle.bond.proofs.check_period.Statement.{statement}
 use Rattle.bond.proofs.check_period.Tie as tie
@@ -34,7 +34,7 @@ returns c = rw (not-true (c .before .args .table) (c .if1 .taken))
 returns-2 : tie.Need-returns-2
 unfolding periodChecks
 returns-2 c =
-    rw (taken (c .before .before .before .before), below-one (c .before .before .before .before .before .args .note .period .num) (subst (λ (z : ℤ). ltZ z (pos 1) ≡ true) (kept (c .before)) (c .if2 .taken)))
+    rw (taken (c .before .before .before .before), not-at-most (c .before .before .before .before .before .args .note .period .num) (pos 1) (subst (λ (z : ℤ). ltZ z (pos 1) ≡ true) (kept (c .before)) (c .if2 .taken)))
 
 is-business-requires : tie.Need-is-business-requires
 is-business-requires c κs = search needs
@@ -43,13 +43,13 @@ returns-3 : tie.Need-returns-3
 unfolding periodChecks
 returns-3 c =
     let e = c .before .before in
-    rw (taken (e .before .before .before .before), from-one (e .before .before .before .before .before .args .note .period .num) (at-least-one e), sym (c .before .is-business .ensures) ∙ c .if3 .taken)
+    rw (taken (e .before .before .before .before), at-most (e .before .before .before .before .before .args .note .period .num) (pos 1) (at-least-one e), sym (c .before .is-business .ensures) ∙ c .if3 .taken)
 
 returns-4 : tie.Need-returns-4
 unfolding periodChecks
 returns-4 c =
     let e = c .before .before in
-    rw (taken (e .before .before .before .before), from-one (e .before .before .before .before .before .args .note .period .num) (at-least-one e), sym (c .before .is-business .ensures) ∙ c .if3 .left)
+    rw (taken (e .before .before .before .before), at-most (e .before .before .before .before .before .args .note .period .num) (pos 1) (at-least-one e), sym (c .before .is-business .ensures) ∙ c .if3 .left)
 
 pub check-period-spec : {M : Type 1} → statement M
 check-period-spec = tie.close (tie.spec returns returns-2 is-business-requires returns-3 returns-4)

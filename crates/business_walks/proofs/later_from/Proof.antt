@@ -5,7 +5,8 @@ use mathlib.Core.List.{List}
 use mathlib.Core.Path.{_∙_, ap}
 use borrow.Author.Needs.{needs}
 use Rattle.holidays.specs.Business.{laterFrom}
-use Rattle.business_walks.proofs.Parts.{later-part, rest-of}
+use Rattle.paper.proofs.Lists.{part-from}
+use Rattle.business_walks.proofs.Parts.{later-part}
 use Rattle.business_walks.proofs.Places.{part-after}
 use Rattle.business_walks.proofs.later_from.Statement.{statement}
 use Rattle.business_walks.proofs.later_from.Tie as tie
@@ -31,13 +32,13 @@ part-walk-on-end c = search needs
 walk-on-requires : tie.Need-walk-on-requires
 walk-on-requires c κs =
     let s = c .before .before .before in
-    (rw (rest-of (s .args .table .now) (c .before .first-from .result)) (part-after (c .before .first-from .ensures)), s .pre .to)
+    (rw (part-from (s .args .table .now) (c .before .first-from .result)) (part-after (c .before .first-from .ensures)), s .pre .to)
 
 returns : tie.Need-returns
 returns c =
     let s = c .before .before .before .before in
     let p = c .before .before .first-from in
-    c .walk-on .ensures ∙ ap (λ (u : List ℕ). laterFrom u (s .args .k) (s .args .n)) (rest-of (s .args .table .now) (p .result)) ∙ later-part (s .args .table .now) (s .args .n) (p .result) (p .ensures) (s .args .k)
+    c .walk-on .ensures ∙ ap (λ (u : List ℕ). laterFrom u (s .args .k) (s .args .n)) (part-from (s .args .table .now) (p .result)) ∙ later-part (s .args .table .now) (s .args .n) (p .result) (p .ensures) (s .args .k)
 
 pub later-from-spec : {M : Type 1} → statement M
 later-from-spec =

@@ -5,7 +5,8 @@ use mathlib.Core.List.{List}
 use mathlib.Core.Path.{_∙_, ap}
 use borrow.Author.Needs.{needs}
 use Rattle.holidays.specs.Business.{nextFrom, laterFrom}
-use Rattle.business_walks.proofs.Parts.{later-part, rest-of}
+use Rattle.paper.proofs.Lists.{part-from}
+use Rattle.business_walks.proofs.Parts.{later-part}
 use Rattle.business_walks.proofs.Places.{part-after}
 use Rattle.holidays.proofs.Steps.{one-step}
 use Rattle.business_walks.proofs.next_at.Statement.{statement}
@@ -29,13 +30,13 @@ part-walk-on-end c = search needs
 walk-on-requires : tie.Need-walk-on-requires
 walk-on-requires c κs =
     let s = c .before .before .before in
-    (rw (rest-of (s .args .table .now) (c .before .place-after .result)) (part-after (c .before .place-after .ensures)), s .pre .0 .to)
+    (rw (part-from (s .args .table .now) (c .before .place-after .result)) (part-after (c .before .place-after .ensures)), s .pre .0 .to)
 
 returns : tie.Need-returns
 returns c =
     let s = c .before .before .before .before in
     let p = c .before .before .place-after in
-    c .walk-on .ensures ∙ ap (λ (u : List ℕ). laterFrom u 1 (s .args .n)) (rest-of (s .args .table .now) (p .result)) ∙ later-part (s .args .table .now) (s .args .n) (p .result) (p .ensures) 1
+    c .walk-on .ensures ∙ ap (λ (u : List ℕ). laterFrom u 1 (s .args .n)) (part-from (s .args .table .now) (p .result)) ∙ later-part (s .args .table .now) (s .args .n) (p .result) (p .ensures) 1
     ∙ one-step (nextFrom (s .args .table .now)) (s .args .n)
 
 pub next-at-spec : {M : Type 1} → statement M

@@ -3,7 +3,7 @@
 use mathlib.Core.Path.{sym, _∙_}
 use native.Mathlib.Omega.{arith}
 use borrow.Author.Needs.{needs}
-use Rattle.business_walks.proofs.Places.{placed, after-listed, after-unlisted}
+use Rattle.business_walks.proofs.Places.{placed, met-on, past-on}
 use Rattle.business_walks.proofs.place_after.Statement.{statement}
 use Rattle.business_walks.proofs.place_after.Tie as tie
 
@@ -13,16 +13,15 @@ holiday-at-requires c κs = search needs
 add-result : tie.Need-add-result
 add-result c =
     let s = c .before .before .before in
-    omega (arith, s .pre .1 .within, placed (s .args .table .now) (s .args .n) (s .args .i) (s .pre .0 .from) (sym (c .before .holiday-at .ensures) ∙ c .if1 .taken))
+    omega (arith, s .pre .1 .within, placed (s .args .table .now) (s .args .n) (s .args .i) (s .pre .0 .from) (sym (c .if1 .taken) ∙ c .before .holiday-at .ensures))
 
 returns : tie.Need-returns
 returns c =
     let s = c .before .before .before in
-    let e = sym (c .before .holiday-at .ensures) ∙ c .if1 .taken in
-    after-listed (s .pre .1) (placed (s .args .table .now) (s .args .n) (s .args .i) (s .pre .0 .from) e) e
+    met-on (s .pre .1) (s .pre .0 .from) (sym (c .if1 .taken) ∙ c .before .holiday-at .ensures)
 
 returns-2 : tie.Need-returns-2
-returns-2 c = after-unlisted (c .before .before .before .pre .1) (λ e. c .if1 .left (c .before .holiday-at .ensures ∙ e))
+returns-2 c = past-on (c .before .before .before .pre .1) (λ e. c .if1 .left (c .before .holiday-at .ensures ∙ sym e))
 
 pub place-after-spec : {M : Type 1} → statement M
 place-after-spec = tie.close (tie.spec holiday-at-requires add-result returns returns-2)

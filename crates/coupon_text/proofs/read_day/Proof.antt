@@ -7,7 +7,7 @@ use borrow.Author.Needs.{needs}
 use Rattle.paper.specs.Outcome.{Outcome, given, andThen}
 use Rattle.reading.specs.Reading.{numberOutcome, unsignedNumber}
 use Rattle.coupon_text.specs.CouponTexts.{upToDot, afterDot, monthPart, dayPart}
-use Rattle.coupon_text.proofs.Parts.{part-from}
+use Rattle.paper.proofs.Lists.{part-from}
 use Rattle.coupon_text.proofs.read_day.Statement.{statement}
 use Rattle.coupon_text.proofs.read_day.Tie as tie
 

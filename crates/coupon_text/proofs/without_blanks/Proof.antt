@@ -4,7 +4,7 @@ use mathlib.Core.Path.{sym, _∙_, ap}
 use lib.Seq.{length-take-le}
 use borrow.Author.Needs.{needs}
 use Rattle.coupon_text.specs.CouponTexts.{trimEnd, trimmed}
-use Rattle.coupon_text.proofs.Parts.{part-from}
+use Rattle.paper.proofs.Lists.{part-from}
 use Rattle.coupon_text.proofs.without_blanks.Statement.{statement}
 use Rattle.coupon_text.proofs.without_blanks.Tie as tie
 

@@ -2,17 +2,17 @@
 -- Assumes nothing.
 use Prim.Native.Nat.{ℕ, _<_, _^_}
 use mathlib.Core.Path.{_≡_, sym, _∙_, ap, ap₂, subst}
-use mathlib.Core.Bool.{Bool, true, false}
+use mathlib.Core.Bool.{Bool, true, not}
 use native.Mathlib.Omega.{arith}
 use lib.Dec.{T}
-use lib.Signed.{ltZ, nonNeg}
+use lib.Signed.{ltZ, ltZ-no, nonNeg, yes-nonNeg}
 use lib.IntN.{ℤ, pos, _+ℤ_, natAbs}
 use mir.Syntax.{w32, w64}
 use mir.Val.{Fits, SFits, toZ, ofZ}
 use mir.Facts.{toZ-pos, fits-of-lt}
 use borrow.Author.Needs.{needs}
 use Rattle.paper.specs.Outcome.{Outcome, given}
-use Rattle.date_step.proofs.Landing.{below, beyond, lands, within, sum-fits, not-below, summed-fits, summed-read}
+use Rattle.date_step.proofs.Landing.{below, beyond, lands, within, sum-fits, summed-fits, summed-read}
 use Rattle.date_step.proofs.land.Statement.{statement}
 use Rattle.date_step.proofs.land.Tie as tie
 
@@ -28,7 +28,7 @@ sum-is c = summed-read (c .args .at) (c .args .n) (few c) (c .fits .n) (fits c)
 
 -- past the first test it is not negative
 whole : (c : tie.Else1) → T (nonNeg (pos (c .before .args .at) +ℤ c .before .args .n))
-whole c = not-below (pos (c .before .args .at) +ℤ c .before .args .n) (subst (λ (z : ℤ). ltZ z (pos 0) ≡ false) (sum-is (c .before)) (c .if1 .left))
+whole c = yes-nonNeg {z = pos (c .before .args .at) +ℤ c .before .args .n} (ltZ-no (subst (λ (z : ℤ). T (not (ltZ z (pos 0)))) (sum-is (c .before)) (subst (λ (b : Bool). T (not b)) (sym (c .if1 .left)) tt)))
 
 -- the second test is against the last
 over : (c : tie.Start) {b : Bool} → ltZ (toZ w64 (c .args .last)) (toZ w64 (ofZ w64 (toZ w64 (c .args .at) +ℤ toZ w64 (ofZ w64 (c .args .n))))) ≡ b → ltZ (pos (c .args .last)) (pos (c .args .at) +ℤ c .args .n) ≡ b

@@ -9,7 +9,8 @@ use Rattle.paper.specs.Outcome.{Outcome, given, andThen}
 use Rattle.date_step.specs.Steps.{placeOutcome, landing, monthsLater}
 use Rattle.calendar.specs.Dates.{monthIndex, monthDate}
 use Rattle.calendar.specs.declared.Date.{Date}
-use Rattle.date_step.proofs.Landing.{landed-to, wide-fits, wide-short, widened}
+use Rattle.paper.proofs.Numbers.{widened, wide-fits}
+use Rattle.date_step.proofs.Landing.{landed-to, wide-short}
 use Rattle.calendar.proofs.Dates.{IsDate, date-yes}
 use Rattle.date_step.proofs.months_later.Statement.{statement}
 use Rattle.date_step.proofs.months_later.Tie as tie

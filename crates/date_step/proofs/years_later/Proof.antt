@@ -8,7 +8,8 @@ use borrow.Author.Needs.{needs}
 use Rattle.paper.specs.Outcome.{Outcome, given, andThen}
 use Rattle.date_step.specs.Steps.{placeOutcome, landing, existingDate, yearsLater}
 use Rattle.calendar.specs.declared.Date.{Date}
-use Rattle.date_step.proofs.Landing.{wide-fits, wide-short, widened}
+use Rattle.paper.proofs.Numbers.{widened, wide-fits}
+use Rattle.date_step.proofs.Landing.{wide-short}
 use Rattle.calendar.proofs.Dates.{date-yes}
 use Rattle.date_step.proofs.years_later.Statement.{statement}
 use Rattle.date_step.proofs.years_later.Tie as tie

@@ -13,7 +13,7 @@ use Rattle.paper.specs.Outcome.{Outcome, given, andThen}
 use Rattle.icma.specs.Walk.{partsOutcome}
 use Rattle.day_count_conv.specs.Conventions.{partsBits, walkedFraction}
 use Rattle.icma.specs.declared.Parts.{Parts}
-use Rattle.day_count_conv.proofs.Numbers.{below-one, from-one}
+use Rattle.paper.proofs.Numbers.{at-most, not-at-most}
 use Rattle.time_period.proofs.Signs.{positive}
 use Rattle.day_count_conv.proofs.walked.Statement.{statement}
 use Rattle.day_count_conv.proofs.walked.Tie as tie
@@ -29,7 +29,7 @@ at-least-one c = subst (λ (z : ℤ). ltZ z (pos 1) ≡ false) (kept (c .before)
 
 returns : tie.Need-returns
 unfolding walkedFraction
-returns c = rw (below-one (c .before .before .before .args .p .num) (subst (λ (z : ℤ). ltZ z (pos 1) ≡ true) (kept (c .before)) (c .if1 .taken)))
+returns c = rw (not-at-most (c .before .before .before .args .p .num) (pos 1) (subst (λ (z : ℤ). ltZ z (pos 1) ≡ true) (kept (c .before)) (c .if1 .taken)))
 
 icma-parts-requires : tie.Need-icma-parts-requires
 icma-parts-requires c κs =
@@ -50,14 +50,14 @@ unfolding walkedFraction
 returns-2 c =
     let p = c .before .before in
     let s : tie.Start = c .before .before .before .before .before .before .before .before in
-    rw (from-one (s .args .p .num) (at-least-one (c .before .before .before .before .before))) (ap {B = Outcome Float} given (c .parts-bits .ensures) ∙ sym (ap (λ (o : Outcome Parts). andThen o (λ parts. given (partsBits (s .args .frequency) parts))) (sym (p .before .before .icma-parts .ensures) ∙ ap partsOutcome (p .parts .given .1))))
+    rw (at-most (s .args .p .num) (pos 1) (at-least-one (c .before .before .before .before .before))) (ap {B = Outcome Float} given (c .parts-bits .ensures) ∙ sym (ap (λ (o : Outcome Parts). andThen o (λ parts. given (partsBits (s .args .frequency) parts))) (sym (p .before .before .icma-parts .ensures) ∙ ap partsOutcome (p .parts .given .1))))
 
 returns-3 : tie.Need-returns-3
 unfolding walkedFraction
 returns-3 c =
     let p = c .before in
     let s : tie.Start = c .before .before .before .before .before .before .before in
-    rw (from-one (s .args .p .num) (at-least-one (c .before .before .before .before))) (sym (ap (λ (o : Outcome Parts). andThen o (λ parts. given (partsBits (s .args .frequency) parts))) (sym (p .before .before .icma-parts .ensures) ∙ ap partsOutcome (p .k .given .1))))
+    rw (at-most (s .args .p .num) (pos 1) (at-least-one (c .before .before .before .before))) (sym (ap (λ (o : Outcome Parts). andThen o (λ parts. given (partsBits (s .args .frequency) parts))) (sym (p .before .before .icma-parts .ensures) ∙ ap partsOutcome (p .k .given .1))))
 
 pub walked-spec : {M : Type 1} → statement M
 walked-spec =

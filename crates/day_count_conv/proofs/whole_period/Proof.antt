@@ -16,7 +16,7 @@ use Rattle.icma.specs.declared.Broken.the-variants.{Nothing}
 use Rattle.icma.specs.declared.Parts.the-variants.{Long}
 use Rattle.day_count_conv.specs.Conventions.{partsBits}
 use Rattle.day_count_conv.specs.Whole.{wholePeriod}
-use Rattle.day_count_conv.proofs.Numbers.{below-one, from-one}
+use Rattle.paper.proofs.Numbers.{at-most, not-at-most}
 use Rattle.day_count_conv.proofs.whole_period.Statement.{statement}
 use Rattle.day_count_conv.proofs.whole_period.Tie as tie
 
@@ -40,7 +40,7 @@ returns : tie.Need-returns
 unfolding wholePeriod
 returns c =
     let n = c .before .before .before .before .before .before .before .args .p .num in
-    rw (found (c .before .before .before .before), below-one n (subst (λ (z : ℤ). ltZ z (pos 1) ≡ true) (kept (c .before)) (c .if1 .taken)))
+    rw (found (c .before .before .before .before), not-at-most n (pos 1) (subst (λ (z : ℤ). ltZ z (pos 1) ≡ true) (kept (c .before)) (c .if1 .taken)))
 
 parts-bits-requires : tie.Need-parts-bits-requires
 parts-bits-requires c κs = search needs
@@ -53,7 +53,7 @@ unfolding wholePeriod
 returns-2 c =
     let e = c .before in
     let n = e .before .before .before .before .before .before .before .args .p .num in
-    rw (found (e .before .before .before .before), from-one n (subst (λ (z : ℤ). ltZ z (pos 1) ≡ false) (kept (e .before)) (e .if1 .left))) (ap {B = Outcome Float} given (c .parts-bits .ensures))
+    rw (found (e .before .before .before .before), at-most n (pos 1) (subst (λ (z : ℤ). ltZ z (pos 1) ≡ false) (kept (e .before)) (e .if1 .left))) (ap {B = Outcome Float} given (c .parts-bits .ensures))
 
 returns-3 : tie.Need-returns-3
 unfolding wholePeriod

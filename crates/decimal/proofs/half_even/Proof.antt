@@ -1,8 +1,9 @@
 -- `decimal::half_even` meets its contract: each `return` is a case of the rounding. Laws of Halves.
 -- Assumes nothing.
 use native.Mathlib.Omega.{arith}
+use lib.Pow.{shr-le}
 use borrow.Author.Needs.{needs}
-use Rattle.decimal.proofs.Halves.{far, back-most, rounds-down, rounds-up, rounds-even, whole-most}
+use Rattle.decimal.proofs.Halves.{far, back-most, rounds-down, rounds-up, rounds-even}
 use Rattle.decimal.proofs.half_even.Statement.{statement}
 use Rattle.decimal.proofs.half_even.Tie as tie
 
@@ -28,13 +29,13 @@ returns-2 : tie.Need-returns-2
 returns-2 c = rounds-down _ _ (c .before .before .pre) (omega arith) (c .if2 .taken)
 
 add-result : tie.Need-add-result
-add-result c = record { fits = omega (arith, whole-most (c .before .before .before .args .n) (c .before .before .before .args .p) (c .before .before .before .pre)) }
+add-result c = record { fits = omega (arith, shr-le (c .before .before .before .args .n) (c .before .before .before .args .p), c .before .before .before .pre) }
 
 returns-3 : tie.Need-returns-3
 returns-3 c = rounds-up _ _ (c .before .before .before .pre) (omega arith) (c .if3 .taken)
 
 add-result-2 : tie.Need-add-result-2
-add-result-2 c = record { fits = omega (arith, whole-most (c .before .before .before .args .n) (c .before .before .before .args .p) (c .before .before .before .pre)) }
+add-result-2 c = record { fits = omega (arith, shr-le (c .before .before .before .args .n) (c .before .before .before .args .p), c .before .before .before .pre) }
 
 returns-4 : tie.Need-returns-4
 returns-4 c = rounds-even _ _ (c .before .before .before .pre) (omega arith) (c .before .if2 .left) (c .if3 .left)

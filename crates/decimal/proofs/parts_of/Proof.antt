@@ -7,7 +7,7 @@ use lib.Ieee.{Float, binary64}
 use lib.Dec.{T}
 use borrow.Author.Needs.{needs}
 use Rattle.decimal.specs.Parts.{PartsOf}
-use Rattle.decimal.proofs.Bits.{not-nan}
+use Rattle.paper.proofs.Numbers.{not-nan}
 use Rattle.decimal.proofs.parts_of.Statement.{statement}
 use Rattle.decimal.proofs.parts_of.Tie as tie
 

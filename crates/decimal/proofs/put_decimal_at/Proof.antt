@@ -1,12 +1,13 @@
 -- `decimal::put_decimal_at` meets its contract: the text of each of the parts. Laws of Answers.
 -- Assumes nothing.
-use mathlib.Core.Path.{subst, ap}
+use mathlib.Core.Path.{sym, subst, ap, _∙_}
+use mathlib.Core.Bool.{true≢false}
 use native.Mathlib.Omega.{arith}
 use lib.ListN.{length}
 use borrow.Author.Needs.{needs}
 use Rattle.text.proofs.Writers.{wrote-is}
 use Rattle.decimal.specs.Parts.{PartsOf}
-use Rattle.decimal.proofs.Answers.{text-is, finite-apart}
+use Rattle.decimal.proofs.Answers.{text-is}
 use Rattle.decimal.proofs.put_decimal_at.Statement.{statement}
 use Rattle.decimal.proofs.put_decimal_at.Tie as tie
 
@@ -57,7 +58,7 @@ enum-told c = search needs
 returns-3 : tie.Need-returns-3
 returns-3 c =
     let start : tie.Start = c .before .before .before .before in
-    absurd (finite-apart (start .args .x) (start .pre .0) (subst (PartsOf (start .args .x)) (c .enum-told .given .1) (c .before .before .parts-of .ensures)))
+    absurd (true≢false (sym (start .pre .0) ∙ subst (PartsOf (start .args .x)) (c .enum-told .given .1) (c .before .before .parts-of .ensures)))
 
 pub put-decimal-at-spec : {M : Type 1} → statement M
 put-decimal-at-spec =

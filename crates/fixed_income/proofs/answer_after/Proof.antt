@@ -2,7 +2,7 @@
 -- Assumes nothing.
 use mathlib.Core.Path.{_≡_, refl, sym, ap, _∙_}
 use mathlib.Core.Bool.{Bool, not}
-use Prim.Native.Nat.{ℕ, _<_, _≤_, _^_, _*_, _+_, _-_}
+use Prim.Native.Nat.{ℕ, _<_, _≤_, _^_, _*_, _-_}
 use native.Mathlib.Omega.{arith}
 use mathlib.Core.WellFounded.{WellFounded, InvImage·wf}
 use mathlib.Core.List.{List, [], _∷_}
@@ -52,7 +52,8 @@ use Rattle.cash_flow.specs.declared.CashFlow.{CashFlow}
 use Rattle.cash_flow.specs.declared.FlowsAnswer.{FlowsAnswer}
 use Rattle.cash_flow.specs.declared.FlowsAnswer.the-variants.{Flows, Refused}
 use Rattle.fixed_income.specs.After.{hasDate, isLater}
-use Rattle.fixed_income.proofs.Records.{noFlow, Counting, counting-none, counting-yes, counting-no, Answers, no-date, no-flow-date, no-room, so-many}
+use Rattle.cash_flow.proofs.NoFlow.{noFlow}
+use Rattle.fixed_income.proofs.Records.{Counting, counting-none, counting-yes, counting-no, Answers, no-date, no-flow-date, no-room, so-many}
 use Rattle.room.proofs.Walks.{rest-of}
 use Rattle.fixed_income.proofs.Walked.{vals, dates, word, slice, IsLater, to-is-later, asked-is-later, said-is-later}
 use Rattle.calendar.proofs.Date as D

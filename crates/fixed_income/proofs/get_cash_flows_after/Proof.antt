@@ -2,7 +2,7 @@
 -- Assumes nothing.
 use mathlib.Core.Path.{_≡_, refl, sym, ap, subst, _∙_}
 use mathlib.Core.Bool.{Bool, not}
-use Prim.Native.Nat.{ℕ, _<_, _^_, _*_, _+_, _-_}
+use Prim.Native.Nat.{ℕ, _<_, _^_, _*_, _-_}
 use native.Mathlib.Omega.{arith}
 use mathlib.Core.WellFounded.{WellFounded, InvImage·wf}
 use mathlib.Core.List.{List, [], _∷_}
@@ -56,7 +56,8 @@ use Rattle.cash_flow.specs.declared.CashFlow.{CashFlow}
 use Rattle.cash_flow.specs.declared.FlowsAnswer.{FlowsAnswer}
 use Rattle.fixed_income.specs.After.{isLater}
 use Rattle.fixed_income.specs.Promises.{isRefused, AfterPromise}
-use Rattle.fixed_income.proofs.Records.{noFlow, Answers, Copying, copying-none, copying-yes, copying-no, k-room, k-inside, copy-refused, copy-ends}
+use Rattle.cash_flow.proofs.NoFlow.{noFlow}
+use Rattle.fixed_income.proofs.Records.{Answers, Copying, copying-none, copying-yes, copying-no, k-room, k-inside, copy-refused, copy-ends}
 use Rattle.room.proofs.Walks.{rest-of}
 use Rattle.fixed_income.proofs.Walked.{vals, dates, word, slice, IsLater, to-is-later, asked-is-later, said-is-later}
 use Rattle.calendar.proofs.Date as D

@@ -7,7 +7,7 @@ use lib.ListN.{length, length-set, length-drop}
 use borrow.Author.Needs.{needs}
 use Rattle.text.proofs.Writers.{wrote-is}
 use Rattle.text.proofs.Putting.{wrote-one, wrote-then}
-use Rattle.four_decimals.proofs.Texts.{part-from}
+use Rattle.paper.proofs.Lists.{part-from}
 use Rattle.four_decimals.proofs.put_last_four.Statement.{statement}
 use Rattle.four_decimals.proofs.put_last_four.Tie as tie
 

@@ -14,7 +14,8 @@ use Rattle.calendar.specs.declared.Date.{Date}
 use Rattle.icma.specs.Walk.{step, firstPart}
 use Rattle.icma.specs.declared.Broken.the-variants.{Part}
 use Rattle.icma.specs.declared.Broken.{Broken}
-use Rattle.icma.proofs.Steps.{step-later, gap-kept}
+use Rattle.time_period.proofs.Steps.{step-later}
+use Rattle.icma.proofs.Steps.{gap-kept}
 use Rattle.icma.proofs.first_part.Statement.{statement}
 use Rattle.icma.proofs.first_part.Tie as tie
 

@@ -14,7 +14,8 @@ use Rattle.calendar.specs.declared.Date.{Date}
 use Rattle.icma.specs.Walk.{step, lastPart}
 use Rattle.icma.specs.declared.Broken.the-variants.{Part}
 use Rattle.icma.specs.declared.Broken.{Broken}
-use Rattle.icma.proofs.Steps.{step-earlier, gap-kept}
+use Rattle.time_period.proofs.Steps.{step-earlier}
+use Rattle.icma.proofs.Steps.{gap-kept}
 use Rattle.icma.proofs.last_part.Statement.{statement}
 use Rattle.icma.proofs.last_part.Tie as tie
 

@@ -11,7 +11,7 @@ use Rattle.calendar.specs.declared.Date.{Date}
 use Rattle.icma.specs.Walk.{step, shortParts}
 use Rattle.icma.specs.declared.Parts.the-variants.{Short}
 use Rattle.icma.specs.declared.Parts.{Parts}
-use Rattle.icma.proofs.Steps.{step-later}
+use Rattle.time_period.proofs.Steps.{step-later}
 use Rattle.icma.proofs.short_parts.Statement.{statement}
 use Rattle.icma.proofs.short_parts.Tie as tie
 

@@ -12,8 +12,8 @@ use Rattle.icma_walks.specs.Walks.{walkOutcome}
 use Rattle.icma.specs.Walk.{negated, baseFrom, partsFrom, icmaParts}
 use Rattle.icma_walks.specs.declared.Walked.{Walked}
 use Rattle.time_period.specs.declared.TimePeriod.{TimePeriod}
-use Rattle.time_period.proofs.Signs.{minus-fits, minus-read}
-use Rattle.icma.proofs.Steps.{negated-below, not-the-least, base-ends}
+use Rattle.time_period.proofs.Signs.{minus-fits, minus-read, negative-back}
+use Rattle.icma.proofs.Steps.{not-the-least, base-ends}
 use Rattle.icma.proofs.walked_parts.Statement.{statement}
 use Rattle.icma.proofs.walked_parts.Tie as tie
 
@@ -39,7 +39,7 @@ sub-t10 : tie.Need-sub-t10
 sub-t10 c = minus-fits (c .before .args .p .num) (num-fits c) (not-the-least (c .before .args .p .num) (num-fits c) (c .before .pre .4))
 
 base-from-requires : tie.Need-base-from-requires
-base-from-requires c κs = (c .before .pre .0, c .before .pre .1, c .before .pre .3, c .before .pre .4, subst (λ (q : TimePeriod). ltZ (q .num) (pos 0) ≡ true) (sym (turned c)) (negated-below (c .before .args .p .num) (c .before .pre .4)))
+base-from-requires c κs = (c .before .pre .0, c .before .pre .1, c .before .pre .3, c .before .pre .4, subst (λ (q : TimePeriod). ltZ (q .num) (pos 0) ≡ true) (sym (turned c)) (negative-back (c .before .args .p .num) (c .before .pre .4)))
 
 enum-known-b : tie.Need-enum-known-b
 enum-known-b c = search needs
@@ -47,7 +47,7 @@ enum-known-b c = search needs
 parts-from-requires : tie.Need-parts-from-requires
 parts-from-requires c κs =
     let s : tie.Start = c .before .before .before .before .before in
-    (s .pre .0, s .pre .1, s .pre .2, base-ends (s .args .p) (s .args .start) (s .args .end) (s .args .roll) (c .before .b .given .0 .0) (s .pre .3) (s .pre .4) (based (c .before)), s .pre .4, subst (λ (q : TimePeriod). ltZ (q .num) (pos 0) ≡ true) (sym (turned (c .before .before .before .before))) (negated-below (s .args .p .num) (s .pre .4)))
+    (s .pre .0, s .pre .1, s .pre .2, base-ends (s .args .p) (s .args .start) (s .args .end) (s .args .roll) (c .before .b .given .0 .0) (s .pre .3) (s .pre .4) (based (c .before)), s .pre .4, subst (λ (q : TimePeriod). ltZ (q .num) (pos 0) ≡ true) (sym (turned (c .before .before .before .before))) (negative-back (s .args .p .num) (s .pre .4)))
 
 enum-known-k : tie.Need-enum-known-k
 enum-known-k c = search needs

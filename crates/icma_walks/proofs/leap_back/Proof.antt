@@ -19,7 +19,7 @@ use Rattle.calendar.proofs.Dates.{date-yes}
 use Rattle.calendar.proofs.Order.{index-to}
 use Rattle.icma_walks.specs.Leaps.{isMonths, isUncut, leapBack}
 use Rattle.icma_walks.specs.declared.Walked.{Walked}
-use Rattle.icma_walks.proofs.Leaps.{some-below}
+use Rattle.time_period.proofs.Signs.{below}
 use Rattle.icma_walks.proofs.leap_back.Statement.{statement}
 use Rattle.icma_walks.proofs.leap_back.Tie as tie
 
@@ -45,7 +45,7 @@ module _ (c : tie.After-magnitude) where
   months = c .magnitude .ensures ∙ ap natAbs (toZ-ofZ num-fits)
 
   some : 1 ≤ c .magnitude .result
-  some = omega (arith, months, some-below (start .args .q .num) (start .pre .2))
+  some = omega (arith, months, below (start .args .q .num) (start .pre .2) .1)
 
   apart : there < here
   apart = c .before .before .if2 .left

@@ -19,7 +19,7 @@ use Rattle.calendar.proofs.Dates.{date-yes}
 use Rattle.calendar.proofs.Order.{index-to}
 use Rattle.icma_walks.specs.Leaps.{isMonths, isUncut, leapOn}
 use Rattle.icma_walks.specs.declared.Walked.{Walked}
-use Rattle.icma_walks.proofs.Leaps.{some-above}
+use Rattle.time_period.proofs.Signs.{above}
 use Rattle.icma_walks.proofs.leap_on.Statement.{statement}
 use Rattle.icma_walks.proofs.leap_on.Tie as tie
 
@@ -45,7 +45,7 @@ module _ (c : tie.After-magnitude) where
   months = c .magnitude .ensures ∙ ap natAbs (toZ-ofZ num-fits)
 
   some : 1 ≤ c .magnitude .result
-  some = omega (arith, months, some-above (start .args .p .num) (start .pre .2))
+  some = omega (arith, months, above (start .args .p .num) (start .pre .2) .1)
 
   apart : here < there
   apart = c .before .before .if2 .left

@@ -2,8 +2,8 @@
 -- Assumes nothing.
 use mathlib.Core.Path.{sym, _∙_, ap}
 use Rattle.bond.specs.Notes.{noteOutcome}
-use Rattle.note_flows.proofs.Judging.{judged-by}
-use Rattle.kept_flows.proofs.Kept.{note-refused, flows-refused, none-kept}
+use Rattle.note_flows.proofs.Judging.{judged-by, flows-refused}
+use Rattle.kept_flows.proofs.Kept.{note-refused, none-kept}
 use borrow.Author.Needs.{needs}
 use Rattle.kept_flows.proofs.answer_within.Statement.{statement}
 use Rattle.kept_flows.proofs.answer_within.Tie as tie
@@ -39,7 +39,7 @@ returns-2 c =
     let k = e .before .before in
     let s : tie.Start = k .before .before .before .before in
     let r = sym (k .check-note-with .ensures) ∙ ap noteOutcome (e .k .given .1) in
-    (note-refused (s .args .note) (s .args .position) (s .args .table .now) (s .args .places) _ _ _ (k .before .before .is-position .ensures) (k .before .is-table .ensures) r, none-kept (s .args .note) (s .args .position) (s .args .table .now) (s .args .places) _ _ _ (flows-refused (s .args .note) (s .args .position) (s .args .table .now) (s .args .places) _ _ _ (k .before .before .is-position .ensures) (k .before .is-table .ensures) r))
+    (note-refused (s .args .note) (s .args .position) (s .args .table .now) (s .args .places) _ _ _ (k .before .before .is-position .ensures) (k .before .is-table .ensures) r, none-kept (s .args .note) (s .args .position) (s .args .table .now) (s .args .places) _ _ _ (flows-refused (s .args .note) (s .args .position) (s .args .table .now) _ _ _ (k .before .before .is-position .ensures) (k .before .is-table .ensures) r))
 
 pub answer-within-spec : {M : Type 1} → statement M
 answer-within-spec =

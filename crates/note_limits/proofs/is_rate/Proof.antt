@@ -1,7 +1,8 @@
 -- `note_limits::is_rate` meets its contract: a NaN differs from itself, the bits say the sign, and what is left is compared.
 -- Assumes nothing.
 use borrow.Author.Needs.{needs}
-use Rattle.note_limits.proofs.Limits.{not-nan, nan-no-rate, rate-high, rate-low}
+use Rattle.paper.proofs.Numbers.{not-nan}
+use Rattle.note_limits.proofs.Limits.{nan-no-rate, rate-high, rate-low}
 use Rattle.note_limits.proofs.is_rate.Statement.{statement}
 use Rattle.note_limits.proofs.is_rate.Tie as tie
 

@@ -1,23 +1,21 @@
--- `packed::copy_days` meets its contract: the first i days stand in front of what was there.
+-- `packed::copy_days` meets its contract. The loop's invariant: i days are copied and the other places are as they were. The measure: how many are left.
 -- Assumes nothing.
 use Prim.Native.Nat.{_-_, _≤_}
-use mathlib.Core.Path.{_≡_, refl}
-use mathlib.Core.List.{_++_}
+use mathlib.Core.Path.{_≡_}
 use native.Mathlib.Omega.{arith}
-use denote.Ref.{now}
-use lib.ListN.{length, take, drop}
-use Rattle.packed.proofs.Copying.{copied-length, copied-more, copied-all}
+use lib.ListN.{drop}
+use Rattle.room.proofs.Filling.{Filled, filled-none, filled-next, filled-part}
 use Rattle.packed.proofs.copy_days.Statement.{statement}
 use Rattle.packed.proofs.copy_days.Tie as tie
 
 abbrev Inv-loop : tie.InvT-loop
-Inv-loop days n table₀ i₀ table i = (i ≤ n) × (table ≡ take i days ++ drop i table₀)
+Inv-loop days n table₀ i₀ table i = (i ≤ n) × (Filled days table₀ i (drop i days) table)
 
 abbrev μ-loop : tie.MeasureT-loop
 μ-loop days n table₀ i₀ table i = n - i
 
 loop-holds : tie.Need-loop-holds Inv-loop μ-loop
-loop-holds c = (omega arith, refl)
+loop-holds c = (omega arith, filled-none _ _)
 
 mul-table : tie.Need-mul-table Inv-loop μ-loop
 mul-table c = record { fits = omega arith }
@@ -29,9 +27,7 @@ mul-table-2 : tie.Need-mul-table-2 Inv-loop μ-loop
 mul-table-2 c = record { fits = omega arith }
 
 slice-write-table : tie.Need-slice-write-table Inv-loop μ-loop
-slice-write-table c =
-    let a = c .before .before .before .args in
-    rw (copied-length (now (a .days)) (now (a .table)) _ (c .before .before .loop .i) (c .before .before .loop .inv .1) (omega arith) (omega arith)) (omega arith)
+slice-write-table c = omega (arith, c .before .before .loop .inv .1 .same-length)
 
 add-i : tie.Need-add-i Inv-loop μ-loop
 add-i c = omega arith
@@ -41,18 +37,17 @@ loop-less c = omega arith
 
 loop-again : tie.Need-loop-again Inv-loop μ-loop
 loop-again c =
-    let a = c .before .before .before .args in
-    (omega arith, copied-more (now (a .days)) (now (a .table)) _ (c .before .before .loop .i) (c .before .before .loop .inv .1) (omega arith) (omega arith))
+    let l = c .before .before .loop in
+    (omega arith, filled-next _ _ _ (l .i) 0 (l .table) (omega arith) (omega (arith, l .inv .1 .same-length)) (l .inv .1))
 
 same-length : tie.Need-same-length Inv-loop μ-loop
-same-length c =
-    let a = c .before .before .args in
-    copied-length (now (a .days)) (now (a .table)) _ (c .before .loop .i) (c .before .loop .inv .1) (omega arith) (omega arith)
+same-length c = c .before .loop .inv .1 .same-length
 
 returns : tie.Need-returns Inv-loop μ-loop
 returns c =
-    let a = c .before .before .args in
-    copied-all (now (a .days)) (now (a .table)) _ (c .before .loop .i) (c .before .loop .inv .1) (a .n) (omega arith)
+    let l = c .before .loop in
+    let e : l .i ≡ c .before .before .args .n = omega arith in
+    rw e at (filled-part _ _ (l .i) _ (l .table) (omega (arith, l .inv .1 .same-length)) (l .inv .1))
 
 pub copy-days-spec : {M : Type 1} → statement M
 copy-days-spec =

@@ -1,11 +1,11 @@
 -- `packed_raw::place_at` meets its contract: a digit, or 15.
 -- Assumes nothing.
-use Prim.Native.Nat.{ℕ, _-_, _/_, _%_}
+use Prim.Native.Nat.{ℕ, _/_, _%_}
 use mathlib.Core.Path.{ap}
+use native.Mathlib.Nat.{one-le-pow}
 use native.Mathlib.Omega.{arith}
 use borrow.Author.Needs.{needs}
 use borrow.Author.Tests.{lt-ltb, le-ltb}
-use Rattle.packed_raw.proofs.Codes.{ten-some}
 use Rattle.packed_raw.proofs.place_at.Statement.{statement}
 use Rattle.packed_raw.proofs.place_at.Tie as tie
 
@@ -19,7 +19,7 @@ power-of-ten-requires : tie.Need-power-of-ten-requires
 power-of-ten-requires c κs = search needs
 
 div-result : tie.Need-div-result
-div-result c = ten-some _ _ (c .power-of-ten .ensures)
+div-result c = rw (c .power-of-ten .ensures) (one-le-pow _ 10 (omega arith))
 
 returns : tie.Need-returns
 returns c =

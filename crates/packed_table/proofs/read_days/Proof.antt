@@ -5,7 +5,6 @@ use mathlib.Core.Path.{_≡_, sym}
 use mathlib.Core.Bool.{true≢false}
 use native.Mathlib.Omega.{arith}
 use denote.Ref.{now}
-use lib.ListN.{length}
 use Rattle.holidays.specs.Table.{ascendsFrom}
 use Rattle.room.proofs.Filling.{Filled}
 use Rattle.packed_table.specs.Tables.{daysFrom}

@@ -4,14 +4,14 @@ use native.Mathlib.Omega.{arith}
 use borrow.Author.Needs.{needs}
 use denote.Ref.{now}
 use Rattle.packed_write.proofs.Pens.{drew-then}
-use Rattle.packed_write.proofs.Tables.{table-short}
+use Rattle.holidays.proofs.Table.{table-most}
 use Rattle.packed_write.proofs.put_table.Statement.{statement}
 use Rattle.packed_write.proofs.put_table.Tie as tie
 
 put-field-requires : tie.Need-put-field-requires
 put-field-requires c κs =
     let s = c .before .before .before in
-    (s .pre .0 .0, omega arith, omega (arith, table-short (now (s .args .table)) (s .pre .1)), omega (arith, s .pre .0 .1))
+    (s .pre .0 .0, omega arith, omega (arith, table-most (now (s .args .table)) (s .pre .1)), omega (arith, s .pre .0 .1))
 
 put-days-requires : tie.Need-put-days-requires
 put-days-requires c κs = search needs

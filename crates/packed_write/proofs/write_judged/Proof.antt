@@ -9,12 +9,12 @@ use Rattle.packed_numbers.specs.declared.Raw.{Raw}
 use Rattle.packed_raw.specs.Fields.{rawWith}
 use Rattle.packed_write.specs.Fields.{rawBytes}
 use Rattle.packed_write.proofs.Fields.{bytes-length}
-use Rattle.packed_write.proofs.Tables.{table-short}
+use Rattle.holidays.proofs.Table.{table-most}
 use Rattle.packed_write.proofs.write_judged.Statement.{statement}
 use Rattle.packed_write.proofs.write_judged.Tie as tie
 
 record-length-requires : tie.Need-record-length-requires
-record-length-requires c κs = let s = c .before .before in table-short (now (s .args .table)) (s .pre .1)
+record-length-requires c κs = let s = c .before .before in table-most (now (s .args .table)) (s .pre .1)
 
 returns : tie.Need-returns
 returns c =

@@ -9,8 +9,9 @@ use mir.Val.{SFits, toZ, ofZ}
 use mir.Facts.{toZ-ofZ}
 use borrow.Author.Needs.{needs}
 use denote.Ref.{now}
+use Rattle.paper.proofs.Numbers.{at-most, not-at-most}
 use Rattle.bond.specs.Notes.{noteOutcome}
-use Rattle.packed_write.proofs.Answers.{above-twelve, within-twelve, period-refused, note-refused, note-packable, note-written}
+use Rattle.packed_write.proofs.Answers.{period-refused, note-refused, note-packable, note-written}
 use Rattle.packed_write.proofs.write_note.Statement.{statement}
 use Rattle.packed_write.proofs.write_note.Tie as tie
 
@@ -21,12 +22,12 @@ kept c =
     toZ-ofZ f
 
 within : (c : tie.Else1) → leZ (c .before .before .before .before .before .before .args .note .period .num) (pos 4095) ≡ true
-within c = within-twelve (c .before .before .before .before .before .before .args .note .period .num) (subst (λ (z : ℤ). ltZ (pos 4095) z ≡ false) (kept (c .before)) (c .if1 .left))
+within c = at-most (pos 4095) (c .before .before .before .before .before .before .args .note .period .num) (subst (λ (z : ℤ). ltZ (pos 4095) z ≡ false) (kept (c .before)) (c .if1 .left))
 
 returns : tie.Need-returns
 returns c =
     let a = c .before .before .before .before .before .before .args in
-    period-refused (a .note) (now (a .table)) (now (a .out)) (above-twelve (a .note .period .num) (subst (λ (z : ℤ). ltZ (pos 4095) z ≡ true) (kept (c .before)) (c .if1 .taken)))
+    period-refused (a .note) (now (a .table)) (now (a .out)) (not-at-most (pos 4095) (a .note .period .num) (subst (λ (z : ℤ). ltZ (pos 4095) z ≡ true) (kept (c .before)) (c .if1 .taken)))
 
 is-table-requires : tie.Need-is-table-requires
 is-table-requires c κs = search needs

@@ -1,6 +1,5 @@
 -- `period_interest::elapsed_part` meets its contract.
 -- Assumes nothing.
-use Prim.Native.Nat.{_-_}
 use borrow.Author.Needs.{needs}
 use Rattle.period_interest.proofs.elapsed_part.Statement.{statement}
 use Rattle.period_interest.proofs.elapsed_part.Tie as tie

@@ -1,6 +1,6 @@
 -- `rate_streams::discount_cash_flow_stream` meets its contract: a walk of its code, by hand. A call gives what a stream begins with; each turn reads a whole
 -- flow and calls a covered function with it and with what stands so far. Laws of Walked. Assumes nothing.
-use mathlib.Core.Path.{_≡_, refl, sym, ap, subst}
+use mathlib.Core.Path.{_≡_, refl, sym}
 use Prim.Native.Nat.{ℕ, _<_, _^_, _*_, _-_}
 use native.Mathlib.Omega.{arith}
 use mathlib.Core.WellFounded.{WellFounded, InvImage·wf}
@@ -32,7 +32,7 @@ use denote.Ref.{RefT}
 use denote.Slice.{sliceTy, sliceVal, ShrSlice, Room, slice-vals, shr-slice-tells, heres, codedHoleys, at-slice}
 use denote.Index.{place-is, elem-out, elem-back, looks-slice, shuts-slice}
 use denote.Signature.{plain}
-use denote.Steps.{owned, nothing, peeks, heard, only}
+use denote.Steps.{owned, nothing, peeks, heard}
 use denote.Struct.Laws as LL
 use denote.Enum.Laws as EL
 use denote.Triple.Statement.{Contract, Triple}
@@ -58,8 +58,9 @@ use Rattle.rate_streams.specs.Steps.{streamStart, flowOnto}
 use Rattle.rates.specs.declared.FlatRate.{FlatRate}
 use Rattle.rates.proofs.FlatRate as R
 use Rattle.rates.proofs.FlatRate.Laws as R′
-use Rattle.room.proofs.Walks.{rest-of}
-use Rattle.rate_streams.proofs.Walked.{noFlow, Held, Summed, sum-start, sum-more, sum-ends}
+use Rattle.room.proofs.Walks.{rest-of, told, held}
+use Rattle.cash_flow.proofs.NoFlow.{noFlow}
+use Rattle.rate_streams.proofs.Walked.{Held, Summed, sum-start, sum-more, sum-ends}
 use Rattle.rate_streams.proofs.stream_start as stream-start
 use Rattle.rate_streams.proofs.stream_start.Symbol as stream-start-def
 use Rattle.rate_streams.proofs.stream_start.Symbol.{name as #rate-streams·stream-start}
@@ -105,13 +106,6 @@ slice = sliceTy (tyRef (named 0) imm (pointee (T.the-row .written)))
 -- the turn after its test
 abbrev body : Body
 body = rest-of (rest-of (rest-of mir.turn-1))
-
--- a result's machine value is the answer's
-told : (r : AmountAnswer) (u : Val) → Is E.the-row r (u ∷ []) → u ≡ answer r
-told r u is = ap only (EL.tells E.the-type E′.the-laws r (u ∷ []) is)
-
-held : (r : AmountAnswer) (u : Val) → Is E.the-row r (u ∷ []) → Held r
-held r u is = subst (Is E.the-row r) (EL.tells E.the-type E′.the-laws r (u ∷ []) is) is
 
 module _ {M : Type 1} (𝓤 : URA M) (H : Heap 𝓤) (A : Atoms 𝓤) (mem : Memory → SProp 𝓤) (run : Routine → Fun 𝓤) where
   -- the contracts that the proof cites
@@ -220,9 +214,9 @@ module _ {M : Type 1} (𝓤 : URA M) (H : Heap 𝓤) (A : Atoms 𝓤) (W : Given
           split ! $ move ! (1 ∷ []) $ use1 W (raw (fact 𝓤 (amountOutcome r ≡ flowOnto rate today (amountOutcome (t .so-far)) (getD ys (t .i) noFlow)))) (said (t .so-far) (getD ys (t .i) noFlow) r) $ heard ! (amountOutcome r ≡ flowOnto rate today (amountOutcome (t .so-far)) (getD ys (t .i) noFlow)) (λ e. split ! $ move ! (1 ∷ []) $
           peeks ! E.the-row (Is E.the-row) (shows 𝓤 H A E.the-row) r (u ∷ []) (λ is.
           land ! (from ! (stop !)) (store ! 18 refl (EL.lawful E.the-type E′.the-laws 𝓤 H A W tt .typed r (u ∷ []) is .0)) $
-          rewrite ! 18 (λ (v : Val). ‵ (fat fullShare E′.mir l₄ 0 v)) (told r u is) refl $ drop ! $ drop ! $
-          assigns-last ! (bin ! (load ! (from ! (stop !)) (look ! 14 refl)) (lit ! tt) (record { fits = i-fits (sum-more rate today ys t r (held r u is) l e) })) (from ! (stop !)) (store ! 14 refl (tt, record { fits = i-fits (sum-more rate today ys t r (held r u is) l e) })) $
-          forget ! 4 refl $ forget ! 6 refl $ forget ! 8 refl $ forget ! 10 refl $ forget ! 12 refl $ again ! Nearer At t (sum-more rate today ys t r (held r u is) l e) (omega arith))))))))
+          rewrite ! 18 (λ (v : Val). ‵ (fat fullShare E′.mir l₄ 0 v)) (told E.the-type E′.the-laws r u is) refl $ drop ! $ drop ! $
+          assigns-last ! (bin ! (load ! (from ! (stop !)) (look ! 14 refl)) (lit ! tt) (record { fits = i-fits (sum-more rate today ys t r (held E.the-type E′.the-laws r u is) l e) })) (from ! (stop !)) (store ! 14 refl (tt, record { fits = i-fits (sum-more rate today ys t r (held E.the-type E′.the-laws r u is) l e) })) $
+          forget ! 4 refl $ forget ! 6 refl $ forget ! 8 refl $ forget ! 10 refl $ forget ! 12 refl $ again ! Nearer At t (sum-more rate today ys t r (held E.the-type E′.the-laws r u is) l e) (omega arith))))))))
           (λ over. jumps ! $ exec ! Cs Λ En mir.t-4 (atRet En Post) $
           assigns ! (of-opd ! (load ! (from ! (stop !)) (look ! 16 refl))) (from ! (stop !)) (init ! 24 refl (EL.lawful E.the-type E′.the-laws 𝓤 H A W tt .typed (t .so-far) (answer (t .so-far) ∷ []) (t .held) .0)) $
           returns ! (look ! 24 refl) $ forget ! 8 refl $ forget ! 10 refl $ forget ! 14 refl $ forget ! 16 refl $ forget ! 18 refl $ forget ! 20 refl $ forget ! 22 refl $ forget ! 24 refl $
@@ -252,8 +246,8 @@ module _ {M : Type 1} (𝓤 : URA M) (H : Heap 𝓤) (A : Atoms 𝓤) (W : Given
           split ! $ move ! (1 ∷ []) $ use1 W (raw (fact 𝓤 (amountOutcome r ≡ streamStart rate))) (said-start r) $ heard ! (amountOutcome r ≡ streamStart rate) (λ e. split ! $ move ! (1 ∷ []) $
           peeks ! E.the-row (Is E.the-row) (shows 𝓤 H A E.the-row) r (u ∷ []) (λ is.
           land ! (from ! (stop !)) (init ! 18 refl (EL.lawful E.the-type E′.the-laws 𝓤 H A W tt .typed r (u ∷ []) is .0)) $
-          rewrite ! 18 (λ (v : Val). ‵ (fat fullShare E′.mir l₄ 0 v)) (told r u is) refl $ drop ! $ drop ! $
-          looped r (held r u is) e))))
+          rewrite ! 18 (λ (v : Val). ‵ (fat fullShare E′.mir l₄ 0 v)) (told E.the-type E′.the-laws r u is) refl $ drop ! $ drop ! $
+          looped r (held E.the-type E′.the-laws r u is) e))))
 
     walk : ent 𝓤 (onEntry 𝓤 H A f.signature (κ, tt) (q, tt) x at) (WpFn 𝓤 H (𝓣 .C) (𝓣 .Λ) code.function (rate-val rate ∷ sliceVal (b, o) (length ys) ∷ date-val today ∷ []) Post)
     walk =

@@ -1,7 +1,8 @@
 -- By the first byte: laws of Decimals. Assumes nothing.
 use mathlib.Core.Path.{sym, _∙_}
 use borrow.Author.Needs.{needs}
-use Rattle.reading.proofs.Decimals.{signed-empty, signed-minus, signed-else, no-plus, after-plus, tail-whole}
+use Rattle.paper.proofs.Lists.{part-from}
+use Rattle.reading.proofs.Decimals.{signed-empty, signed-minus, signed-else, no-plus, after-plus}
 use Rattle.reading.proofs.read_i32.Statement.{statement}
 use Rattle.reading.proofs.read_i32.Tie as tie
 
@@ -24,7 +25,7 @@ read-below-zero-requires : tie.Need-read-below-zero-requires
 read-below-zero-requires c κs = search needs
 
 returns-2 : tie.Need-returns-2
-returns-2 c = signed-minus _ (c .before .before .before .before .before .before .args .s .now) _ (c .read-below-zero .ensures ∙ rw (tail-whole (c .before .before .before .before .before .before .args .s .now))) (c .before .before .before .before .if1 .left) (c .before .before .if2 .taken)
+returns-2 c = signed-minus _ (c .before .before .before .before .before .before .args .s .now) _ (c .read-below-zero .ensures ∙ rw (part-from (c .before .before .before .before .before .before .args .s .now) 1)) (c .before .before .before .before .if1 .left) (c .before .before .if2 .taken)
 
 sub-read-from-zero : tie.Need-sub-read-from-zero
 sub-read-from-zero c = search needs
@@ -39,7 +40,7 @@ read-from-zero-requires : tie.Need-read-from-zero-requires
 read-from-zero-requires c κs = search needs
 
 returns-3 : tie.Need-returns-3
-returns-3 c = signed-else _ (c .before .before .before .before .before .before .before .args .s .now) _ _ (c .read-from-zero .ensures) (after-plus _ (c .before .before .before .before .before .if1 .left) (c .before .before .if3 .taken) ∙ sym (tail-whole (c .before .before .before .before .before .before .before .args .s .now))) (c .before .before .before .before .before .if1 .left) (c .before .before .before .if2 .left)
+returns-3 c = signed-else _ (c .before .before .before .before .before .before .before .args .s .now) _ _ (c .read-from-zero .ensures) (after-plus _ (c .before .before .before .before .before .if1 .left) (c .before .before .if3 .taken) ∙ sym (part-from (c .before .before .before .before .before .before .before .args .s .now) 1)) (c .before .before .before .before .before .if1 .left) (c .before .before .before .if2 .left)
 
 read-from-zero-requires-2 : tie.Need-read-from-zero-requires-2
 read-from-zero-requires-2 c κs = search needs

@@ -1,7 +1,8 @@
 -- With the one plus cut off, the text is a decimal: laws of Decimals. Assumes nothing.
 use mathlib.Core.Path.{sym, _∙_}
 use borrow.Author.Needs.{needs}
-use Rattle.reading.proofs.Decimals.{unsigned-empty, unsigned-is, no-plus, after-plus, tail-whole}
+use Rattle.paper.proofs.Lists.{part-from}
+use Rattle.reading.proofs.Decimals.{unsigned-empty, unsigned-is, no-plus, after-plus}
 use Rattle.reading.proofs.read_u32.Statement.{statement}
 use Rattle.reading.proofs.read_u32.Tie as tie
 
@@ -24,7 +25,7 @@ read-decimal-requires : tie.Need-read-decimal-requires
 read-decimal-requires c κs = search needs
 
 returns-2 : tie.Need-returns-2
-returns-2 c = unsigned-is _ (c .before .before .before .before .before .before .args .s .now) _ _ (c .read-decimal .ensures) (after-plus _ (c .before .before .before .before .if1 .left) (c .before .before .if2 .taken) ∙ sym (tail-whole (c .before .before .before .before .before .before .args .s .now)))
+returns-2 c = unsigned-is _ (c .before .before .before .before .before .before .args .s .now) _ _ (c .read-decimal .ensures) (after-plus _ (c .before .before .before .before .if1 .left) (c .before .before .if2 .taken) ∙ sym (part-from (c .before .before .before .before .before .before .args .s .now) 1))
 
 read-decimal-requires-2 : tie.Need-read-decimal-requires-2
 read-decimal-requires-2 c κs = search needs

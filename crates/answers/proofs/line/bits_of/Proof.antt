@@ -1,7 +1,7 @@
 -- `answers::line::bits_of` is safe: only a NaN differs from itself.
 -- Assumes nothing.
 use borrow.Author.Needs.{needs}
-use Rattle.decimal.proofs.Bits.{not-nan}
+use Rattle.paper.proofs.Numbers.{not-nan}
 use Rattle.answers.proofs.line.bits_of.Statement.{statement}
 use Rattle.answers.proofs.line.bits_of.Tie as tie
 

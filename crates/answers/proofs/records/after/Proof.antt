@@ -1,5 +1,5 @@
 -- `after` meets its contract: a walk of its code, by hand, since the borrow checker covers no slice of records. The first n flows and the first k places are lent for the call alone. Assumes nothing.
-use mathlib.Core.Path.{_≡_, refl, sym, subst}
+use mathlib.Core.Path.{refl, sym}
 use Prim.Native.Nat.{ℕ, _<_, _≤_, _^_}
 use mathlib.Core.List.{List, [], _∷_, _++_}
 use lib.Dec.{lit<}
@@ -41,7 +41,6 @@ use denote.Triple.Table.{entered, cited}
 use denote.Triple.Walked.{needs, Stays, stay-none, walkOf, Walks, ends-at, walked, goes-none, walk-meets}
 use denote.Exit.{yes}
 use borrow.Rule.Array.Share.{room-take}
-use borrow.Table.Elements.{length-take-le}
 use Rattle.calendar.specs.declared.Date.{Date}
 use Rattle.calendar.proofs.Date as D
 use Rattle.calendar.proofs.Date.Laws as D′
@@ -57,7 +56,8 @@ use Rattle.fixed_income.proofs.get_cash_flows_after.Met as callee-thm
 use Rattle.fixed_income.specs.Promises.{AfterPromise}
 use Rattle.answers.proofs.records.Records as S
 use Rattle.answers.proofs.records.Records.Laws as S′
-use Rattle.answers.proofs.LentRecords.{flows-val, flows-ty, Flows, Shared, Taken, slice-of, lends, has-back, lends-out, comes-home, flows-typed, told, result, result-val, made}
+use Rattle.room.proofs.Walks.{told}
+use Rattle.answers.proofs.LentRecords.{flows-val, flows-ty, Flows, as-many, first-many, Shared, Taken, slice-of, lends, has-back, lends-out, comes-home, flows-typed, result, result-val, made}
 use Rattle.answers.proofs.records.after.Key as key
 use Rattle.answers.proofs.records.after as f
 use Rattle.answers.proofs.records.after.Statement as stated
@@ -118,18 +118,6 @@ module _ {M : Type 1} (𝓤 : URA M) (H : Heap 𝓤) (A : Atoms 𝓤) (W : Given
     asked : ent 𝓤 (onEntry 𝓤 H A callee.signature (κ, (κ′, tt)) (fullShare, (fullShare, tt)) passed passed-vals) (Callee 𝓤 H A mem run .pre to)
     asked = qed W ((‵ (flft κ fullShare) ⊛ (‵ (flft κ′ fullShare) ⊛ ‵ ftrue)) ∷ ‵ (owns (ShrSlice (named 0) κ T.the-row ∷ D.the-row ∷ MutSlice (named 1) κ′ T.the-row ∷ []) passed passed-vals) ∷ []) ∵ join ! $ frame ! $ done !
 
-  len : length ys ≡ 300
-  len = gy .1 .0 .1
-
-  len-old : length old ≡ 300
-  len-old = go .1 .0 .1
-
-  taken : length (take n ys) ≡ n
-  taken = length-take-le n ys (subst (λ (m : ℕ). n ≤ m) (sym len) (le .0))
-
-  taken-old : length (take k old) ≡ k
-  taken-old = length-take-le k old (subst (λ (m : ℕ). k ≤ m) (sym len-old) (le .1))
-
   module _ (𝓣 : Tables 𝓤 H) (fm : FmC 𝓤 H (W .laws) (𝓣 .C)) (known : Triple 𝓤 (𝓣 .C callee-def.name) (Callee 𝓤 H A mem run)) where
     walk : ent 𝓤 (onEntry 𝓤 H A f.signature tt tt x at) (WpFn 𝓤 H (𝓣 .C) (𝓣 .Λ) code.function (flows-val ys ∷ vint w64 n ∷ date-val date ∷ flows-val old ∷ vint w64 k ∷ []) Post)
     walk =
@@ -144,14 +132,14 @@ module _ {M : Type 1} (𝓤 : URA M) (H : Heap 𝓤) (A : Atoms 𝓤) (W : Given
         assigns ! (agg ! (and-then ! (load ! (from ! (stop !)) (look ! 8 refl)) (and-then ! (load ! (from ! (stop !)) (look ! 22 refl)) (no-more !)))) (from ! (stop !)) (init ! 6 refl (tt, (tt, (record { fits = gn }, tt)))) $
         assigns ! (addr ! (from ! (stop !))) (from ! (stop !)) (init ! 4 refl (tt, tt)) $
         assigns ! (agg ! (and-then ! (load ! (from ! (stop !)) (look ! 4 refl)) (and-then ! (load ! (from ! (stop !)) (look ! 16 refl)) (no-more !)))) (from ! (stop !)) (init ! 2 refl (tt, (tt, (record { fits = gk }, tt)))) $
-        rewrite ! 6 (λ (m : ℕ). ‵ (fat fullShare slice l₁₀ 0 (sliceVal (l₆, 0) m))) (sym taken) refl $ rewrite ! 2 (λ (m : ℕ). ‵ (fat fullShare mut-slice l₁₂ 0 (sliceVal (l₇, 0) m))) (sym taken-old) refl $
+        rewrite ! 6 (λ (m : ℕ). ‵ (fat fullShare slice l₁₀ 0 (sliceVal (l₆, 0) m))) (sym (first-many 300 n ys gy (le .0))) refl $ rewrite ! 2 (λ (m : ℕ). ‵ (fat fullShare mut-slice l₁₂ 0 (sliceVal (l₇, 0) m))) (sym (first-many 300 k old go (le .1))) refl $
         -- the first n flows are lent as `&`, and the first k places as `&mut`, each for a lifetime that is made here
         lft-new ! tt (λ α. move ! (15 ∷ []) $
         use1 W (later (some (λ (γ : GName). ‵ (ShrSlice (named 0) (α ∷ []) T.the-row .own (slice-of l₆ (take n ys) γ) (sliceVal (l₆, 0) (length (take n ys)) ∷ [])) ⊛ ‵ (Shared l₆ (α ∷ []) ys n))))
-        (lends 𝓤 H A W 300 l₆ (α ∷ []) ys n gy (room-take T.the-row 300 n ys len (lit< tt, lit< tt))) $ await ! tt $ pick ! (λ γ. split ! $
+        (lends 𝓤 H A W 300 l₆ (α ∷ []) ys n gy (room-take T.the-row 300 n ys (as-many 300 ys gy) (lit< tt, lit< tt))) $ await ! tt $ pick ! (λ γ. split ! $
         lft-new ! tt (λ β. move ! (16 ∷ []) $
         use1 W (later (some (λ (γ′ : GName). ‵ (MutSlice (named 1) (β ∷ []) T.the-row .own (slice-of l₇ (take k old) γ′) (sliceVal (l₇, 0) (length (take k old)) ∷ [])) ⊛ ‵ (Taken l₇ (β ∷ []) old k γ′))))
-        (lends-out 𝓤 H A W 300 l₇ (named 1) (β ∷ []) old k go (room-take T.the-row 300 k old len-old (lit< tt, lit< tt))) $ await ! tt $ pick ! (λ γ′. split ! $
+        (lends-out 𝓤 H A W 300 l₇ (named 1) (β ∷ []) old k go (room-take T.the-row 300 k old (as-many 300 old go) (lit< tt, lit< tt))) $ await ! tt $ pick ! (λ γ′. split ! $
         -- [the room; what is left of it; its token; the flows; what is left of them; their token; the locals]: the call
         nothing ! $ move ! (1 ∷ 0 ∷ []) $ fjoin ! $ owned ! D.the-row (Is D.the-row) (LL.makes D.the-type D′.the-plain 𝓤 H A) date (date-val date ∷ []) gd $ fjoin ! $ move ! (3 ∷ 0 ∷ []) $ fjoin ! $
         nothing ! $ move ! (3 ∷ 0 ∷ []) $ join ! $ move ! (4 ∷ 0 ∷ []) $ join ! $
@@ -165,12 +153,12 @@ module _ {M : Type 1} (𝓤 : URA M) (H : Heap 𝓤) (A : Atoms 𝓤) (W : Given
         move ! (1 ∷ []) $ drop ! $ move ! (1 ∷ []) $ drop ! $ move ! (1 ∷ []) $ drop ! $ move ! (1 ∷ []) $ split ! $ move ! (1 ∷ []) $
         peeks ! E.the-row (Is E.the-row) (shows 𝓤 H A E.the-row) r (u ∷ []) (λ is.
         land ! (from ! (stop !)) (init ! 15 refl (EL.lawful E.the-type E′.the-laws 𝓤 H A W tt .typed r (u ∷ []) is .0)) $
-        rewrite ! 15 (λ (v : Val). ‵ (fat fullShare E′.mir l₈ 0 v)) (told r u is) refl $ drop ! $ split ! $ move ! (1 ∷ []) $ split ! $
+        rewrite ! 15 (λ (v : Val). ‵ (fat fullShare E′.mir l₈ 0 v)) (told E.the-type E′.the-laws r u is) refl $ drop ! $ split ! $ move ! (1 ∷ []) $ split ! $
         -- the lifetimes end, and the arrays are whole again
         lft-end ! tt $ move ! (0 ∷ 4 ∷ 3 ∷ []) $
-        use3 W (later (given (Flows 300 (ws .1 .1 .0 ++ drop-list k old)) (‵ (fat fullShare (flows-ty 300) l₇ 0 (flows-val (ws .1 .1 .0 ++ drop-list k old)))))) (comes-home 𝓤 H A W 300 l₇ (β ∷ []) γ′ old (ws .1 .1 .0) k len-old) $ await ! tt $ learn ! (λ gz.
+        use3 W (later (given (Flows 300 (ws .1 .1 .0 ++ drop-list k old)) (‵ (fat fullShare (flows-ty 300) l₇ 0 (flows-val (ws .1 .1 .0 ++ drop-list k old)))))) (comes-home 𝓤 H A W 300 l₇ (β ∷ []) γ′ old (ws .1 .1 .0) k (as-many 300 old go)) $ await ! tt $ learn ! (λ gz.
         move ! (2 ∷ []) $ lft-end ! tt $ move ! (0 ∷ 3 ∷ []) $
-        use2 W (later (given (Flows 300 ys) (‵ (fat fullShare (flows-ty 300) l₆ 0 (flows-val ys))))) (has-back 𝓤 H A W 300 l₆ (α ∷ []) ys n len) $ await ! tt $ learn ! (λ _.
+        use2 W (later (given (Flows 300 ys) (‵ (fat fullShare (flows-ty 300) l₆ 0 (flows-val ys))))) (has-back 𝓤 H A W 300 l₆ (α ∷ []) ys n (as-many 300 ys gy)) $ await ! tt $ learn ! (λ _.
         assigns ! (of-opd ! (load ! (from ! (stop !)) (look ! 1 refl))) (from ! (stop !)) (init ! 3 refl (flows-typed 𝓤 H A W 300 l₁₃ (ws .1 .1 .0 ++ drop-list k old) gz .0)) $
         assigns ! (agg ! (and-then ! (load ! (from ! (stop !)) (look ! 13 refl)) (and-then ! (load ! (from ! (stop !)) (look ! 3 refl)) (no-more !)))) (from ! (stop !)) (init ! 27 refl (LL.lawful S.the-type S′.the-laws 𝓤 H A W .typed (result r (ws .1 .1 .0 ++ drop-list k old)) _ (made r (ws .1 .1 .0 ++ drop-list k old) u is gz) .0)) $
         returns ! (look ! 27 refl) $ forget ! 0 refl $ forget ! 1 refl $ forget ! 3 refl $ forget ! 5 refl $ forget ! 7 refl $ forget ! 9 refl $ forget ! 11 refl $ forget ! 13 refl $ forget ! 17 refl $ forget ! 19 refl $ forget ! 21 refl $ forget ! 23 refl $ forget ! 25 refl $ forget ! 27 refl $

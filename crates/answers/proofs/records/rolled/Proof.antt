@@ -1,5 +1,5 @@
 -- `rolled` meets its contract: a walk of its code, by hand, since the borrow checker covers no slice of records. The first k places are lent for the call alone. Assumes nothing.
-use mathlib.Core.Path.{_≡_, refl, sym, subst}
+use mathlib.Core.Path.{refl, sym}
 use Prim.Native.Nat.{ℕ, _<_, _≤_, _^_}
 use mathlib.Core.List.{List, [], _∷_, _++_}
 use lib.Dec.{lit<}
@@ -44,7 +44,6 @@ use denote.Triple.Table.{entered, cited}
 use denote.Triple.Walked.{needs, Stays, stay-none, stay-none-slice, walkOf, Walks, ends-at, walked, goes-none, goes-none-slice, walk-meets}
 use denote.Exit.{yes}
 use borrow.Rule.Array.Share.{room-take}
-use borrow.Table.Elements.{length-take-le}
 use Rattle.bond.specs.declared.Note.{Note}
 use Rattle.bond.proofs.Note as N
 use Rattle.bond.proofs.Note.Laws as N′
@@ -60,7 +59,8 @@ use Rattle.rollout_records.proofs.rollout_cash_flows.Met as callee-thm
 use Rattle.rollout_records.specs.Records.{RecordsPromise}
 use Rattle.answers.proofs.records.Records as S
 use Rattle.answers.proofs.records.Records.Laws as S′
-use Rattle.answers.proofs.LentRecords.{flows-val, flows-ty, Flows, Taken, slice-of, lends-out, comes-home, flows-typed, told, result, result-val, made}
+use Rattle.room.proofs.Walks.{told}
+use Rattle.answers.proofs.LentRecords.{flows-val, flows-ty, Flows, as-many, first-many, Taken, slice-of, lends-out, comes-home, flows-typed, result, result-val, made}
 use Rattle.answers.proofs.records.rolled.Key as key
 use Rattle.answers.proofs.records.rolled as f
 use Rattle.answers.proofs.records.rolled.Statement as stated
@@ -119,12 +119,6 @@ module _ {M : Type 1} (𝓤 : URA M) (H : Heap 𝓤) (A : Atoms 𝓤) (W : Given
     asked : ent 𝓤 (onEntry 𝓤 H A callee.signature (κ, (κ′, tt)) (q, (fullShare, tt)) passed passed-vals) (Callee 𝓤 H A mem run .pre to)
     asked = qed W ((‵ (flft κ q) ⊛ (‵ (flft κ′ fullShare) ⊛ ‵ ftrue)) ∷ ‵ (owns (N.the-row ∷ f64 ∷ ShrSlice (named 0) κ u32 ∷ MutSlice (named 1) κ′ T.the-row ∷ []) passed passed-vals) ∷ []) ∵ join ! $ frame ! $ done !
 
-  len : length old ≡ 300
-  len = go .1 .0 .1
-
-  taken : length (take k old) ≡ k
-  taken = length-take-le k old (subst (λ (m : ℕ). k ≤ m) (sym len) le)
-
   module _ (𝓣 : Tables 𝓤 H) (fm : FmC 𝓤 H (W .laws) (𝓣 .C)) (known : Triple 𝓤 (𝓣 .C callee-def.name) (Callee 𝓤 H A mem run)) where
     walk : ent 𝓤 (onEntry 𝓤 H A f.signature (κ, tt) (q, tt) x at) (WpFn 𝓤 H (𝓣 .C) (𝓣 .Λ) code.function (note-val note ∷ vfloat binary64 position ∷ sliceVal (b, o) (length table) ∷ flows-val old ∷ vint w64 k ∷ []) Post)
     walk =
@@ -139,11 +133,11 @@ module _ {M : Type 1} (𝓤 : URA M) (H : Heap 𝓤) (A : Atoms 𝓤) (W : Given
         assigns ! (of-opd ! (load ! (from ! (stop !)) (look ! 15 refl))) (from ! (stop !)) (init ! 11 refl (flows-typed 𝓤 H A W 300 l₆ old go .0)) $
         assigns ! (addr ! (from ! (stop !))) (from ! (stop !)) (init ! 7 refl (tt, tt)) $
         assigns ! (agg ! (and-then ! (load ! (from ! (stop !)) (look ! 7 refl)) (and-then ! (load ! (from ! (stop !)) (look ! 13 refl)) (no-more !)))) (from ! (stop !)) (init ! 5 refl (tt, (tt, (record { fits = gk }, tt)))) $
-        rewrite ! 5 (λ (m : ℕ). ‵ (fat fullShare mut-slice l₉ 0 (sliceVal (l₆, 0) m))) (sym taken) refl $
+        rewrite ! 5 (λ (m : ℕ). ‵ (fat fullShare mut-slice l₉ 0 (sliceVal (l₆, 0) m))) (sym (first-many 300 k old go le)) refl $
         -- the first k places are lent for a lifetime that is made here
         lft-new ! tt (λ β. move ! (12 ∷ []) $
         use1 W (later (some (λ (γ′ : GName). ‵ (MutSlice (named 1) (β ∷ []) T.the-row .own (slice-of l₆ (take k old) γ′) (sliceVal (l₆, 0) (length (take k old)) ∷ [])) ⊛ ‵ (Taken l₆ (β ∷ []) old k γ′))))
-        (lends-out 𝓤 H A W 300 l₆ (named 1) (β ∷ []) old k go (room-take T.the-row 300 k old len (lit< tt, lit< tt))) $ await ! tt $ pick ! (λ γ′. split ! $
+        (lends-out 𝓤 H A W 300 l₆ (named 1) (β ∷ []) old k go (room-take T.the-row 300 k old (as-many 300 old go) (lit< tt, lit< tt))) $ await ! tt $ pick ! (λ γ′. split ! $
         -- [the room; what is left of it; its token; the table's token; the table, twice; the locals]: the call
         nothing ! $ move ! (1 ∷ 0 ∷ []) $ fjoin ! $ move ! (4 ∷ 0 ∷ []) $ fjoin ! $ owned ! f64 (Is f64) (float-makes 𝓤 H A W binary64) position (vfloat binary64 position ∷ []) gp $ fjoin ! $
         owned ! N.the-row (Is N.the-row) (LL.makes N.the-type N′.the-plain 𝓤 H A) note (note-val note ∷ []) gt $ fjoin ! $ nothing ! $ move ! (3 ∷ 0 ∷ []) $ join ! $ move ! (3 ∷ 0 ∷ []) $ join ! $
@@ -157,10 +151,10 @@ module _ {M : Type 1} (𝓤 : URA M) (H : Heap 𝓤) (A : Atoms 𝓤) (W : Given
         move ! (1 ∷ []) $ drop ! $ move ! (1 ∷ []) $ drop ! $ move ! (1 ∷ []) $ drop ! $ move ! (1 ∷ []) $ split ! $ move ! (1 ∷ []) $
         peeks ! E.the-row (Is E.the-row) (shows 𝓤 H A E.the-row) r (u ∷ []) (λ is.
         land ! (from ! (stop !)) (init ! 11 refl (EL.lawful E.the-type E′.the-laws 𝓤 H A W tt .typed r (u ∷ []) is .0)) $
-        rewrite ! 11 (λ (v : Val). ‵ (fat fullShare E′.mir l₇ 0 v)) (told r u is) refl $ drop ! $ split ! $ move ! (1 ∷ []) $ split ! $
+        rewrite ! 11 (λ (v : Val). ‵ (fat fullShare E′.mir l₇ 0 v)) (told E.the-type E′.the-laws r u is) refl $ drop ! $ split ! $ move ! (1 ∷ []) $ split ! $
         -- the lifetime ends, and the array is whole again
         lft-end ! tt $ move ! (0 ∷ 4 ∷ 3 ∷ []) $
-        use3 W (later (given (Flows 300 (ws .1 .1 .1 .0 ++ drop-list k old)) (‵ (fat fullShare (flows-ty 300) l₆ 0 (flows-val (ws .1 .1 .1 .0 ++ drop-list k old)))))) (comes-home 𝓤 H A W 300 l₆ (β ∷ []) γ′ old (ws .1 .1 .1 .0) k len) $ await ! tt $ learn ! (λ gz.
+        use3 W (later (given (Flows 300 (ws .1 .1 .1 .0 ++ drop-list k old)) (‵ (fat fullShare (flows-ty 300) l₆ 0 (flows-val (ws .1 .1 .1 .0 ++ drop-list k old)))))) (comes-home 𝓤 H A W 300 l₆ (β ∷ []) γ′ old (ws .1 .1 .1 .0) k (as-many 300 old go)) $ await ! tt $ learn ! (λ gz.
         assigns ! (of-opd ! (load ! (from ! (stop !)) (look ! 0 refl))) (from ! (stop !)) (init ! 4 refl (flows-typed 𝓤 H A W 300 l₁₀ (ws .1 .1 .1 .0 ++ drop-list k old) gz .0)) $
         assigns ! (agg ! (and-then ! (load ! (from ! (stop !)) (look ! 10 refl)) (and-then ! (load ! (from ! (stop !)) (look ! 4 refl)) (no-more !)))) (from ! (stop !)) (init ! 23 refl (LL.lawful S.the-type S′.the-laws 𝓤 H A W .typed (result r (ws .1 .1 .1 .0 ++ drop-list k old)) _ (made r (ws .1 .1 .1 .0 ++ drop-list k old) u is gz) .0)) $
         returns ! (look ! 23 refl) $ forget ! 0 refl $ forget ! 4 refl $ forget ! 6 refl $ forget ! 8 refl $ forget ! 10 refl $ forget ! 13 refl $ forget ! 15 refl $ forget ! 17 refl $ forget ! 19 refl $ forget ! 21 refl $ forget ! 23 refl $

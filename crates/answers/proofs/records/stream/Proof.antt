@@ -1,5 +1,5 @@
 -- `stream` meets its contract: a walk of its code, by hand, since the borrow checker covers no slice of records. The first n flows are lent for the call alone. Assumes nothing.
-use mathlib.Core.Path.{_≡_, refl, sym, ap, subst}
+use mathlib.Core.Path.{refl, sym}
 use Prim.Native.Nat.{ℕ, _<_, _≤_, _^_}
 use mathlib.Core.List.{List, [], _∷_}
 use lib.Dec.{lit<}
@@ -29,7 +29,7 @@ use denote.Plain.{uint-vals, uint-tells, uint-makes}
 use denote.Builtin.{usize}
 use denote.Ref.{RefT}
 use denote.Slice.{sliceTy, sliceVal, ShrSlice, Room}
-use denote.Steps.{owned, nothing, peeks, only}
+use denote.Steps.{owned, nothing, peeks}
 use denote.Struct.Laws as LL
 use denote.Enum.Laws as EL
 use denote.Triple.Statement.{Contract, Triple}
@@ -41,7 +41,6 @@ use denote.Triple.Table.{entered, cited}
 use denote.Triple.Walked.{needs, Stays, stay-none, walkOf, Walks, ends-at, walked, goes-none, walk-meets}
 use denote.Exit.{yes}
 use borrow.Rule.Array.Share.{room-take}
-use borrow.Table.Elements.{length-take-le}
 use Rattle.calendar.specs.declared.Date.{Date}
 use Rattle.calendar.proofs.Date as D
 use Rattle.calendar.proofs.Date.Laws as D′
@@ -57,7 +56,8 @@ use Rattle.rates.proofs.FlatRate.Laws as R′
 use Rattle.rate_streams.proofs.discount_cash_flow_stream as callee
 use Rattle.rate_streams.proofs.discount_cash_flow_stream.Symbol as callee-def
 use Rattle.rate_streams.proofs.discount_cash_flow_stream.Met as callee-thm
-use Rattle.answers.proofs.LentRecords.{flows-val, flows-ty, Flows, Shared, slice-of, lends, has-back, flows-typed}
+use Rattle.room.proofs.Walks.{told, held}
+use Rattle.answers.proofs.LentRecords.{flows-val, flows-ty, Flows, as-many, first-many, Shared, slice-of, lends, has-back, flows-typed}
 use Rattle.answers.proofs.records.stream.Key as key
 use Rattle.answers.proofs.records.stream as f
 use Rattle.answers.proofs.records.stream.Statement as stated
@@ -80,12 +80,6 @@ answer a = EL.val E.the-type E′.the-laws a
 
 abbrev slice : Ty
 slice = sliceTy (tyRef erased imm (pointee (T.the-row .written)))
-
-told : (r : AmountAnswer) (u : Val) → Is E.the-row r (u ∷ []) → u ≡ answer r
-told r u is = ap only (EL.tells E.the-type E′.the-laws r (u ∷ []) is)
-
-held : (r : AmountAnswer) (u : Val) → Is E.the-row r (u ∷ []) → Is E.the-row r (answer r ∷ [])
-held r u is = subst (Is E.the-row r) (EL.tells E.the-type E′.the-laws r (u ∷ []) is) is
 
 module _ {M : Type 1} (𝓤 : URA M) (H : Heap 𝓤) (A : Atoms 𝓤) (mem : Memory → SProp 𝓤) (run : Routine → Fun 𝓤) where
   abbrev Callee : Contract 𝓤
@@ -126,14 +120,8 @@ module _ {M : Type 1} (𝓤 : URA M) (H : Heap 𝓤) (A : Atoms 𝓤) (W : Given
     asked : ent 𝓤 (onEntry 𝓤 H A callee.signature (κ, tt) (fullShare, tt) passed passed-vals) (Callee 𝓤 H A mem run .pre to)
     asked = qed W ((‵ (flft κ fullShare) ⊛ ‵ ftrue) ∷ ‵ (owns (R.the-row ∷ ShrSlice (named 0) κ T.the-row ∷ D.the-row ∷ []) passed passed-vals) ∷ []) ∵ join ! $ frame ! $ done !
 
-  len : length ys ≡ 300
-  len = gy .1 .0 .1
-
-  taken : length (take n ys) ≡ n
-  taken = length-take-le n ys (subst (λ (k : ℕ). n ≤ k) (sym len) le)
-
   room : Room T.the-row (length (take n ys))
-  room = room-take T.the-row 300 n ys len (lit< tt, lit< tt)
+  room = room-take T.the-row 300 n ys (as-many 300 ys gy) (lit< tt, lit< tt)
 
   module _ (𝓣 : Tables 𝓤 H) (fm : FmC 𝓤 H (W .laws) (𝓣 .C)) (known : Triple 𝓤 (𝓣 .C callee-def.name) (Callee 𝓤 H A mem run)) where
     walk : ent 𝓤 (onEntry 𝓤 H A f.signature tt tt x at) (WpFn 𝓤 H (𝓣 .C) (𝓣 .Λ) code.function (rate-val rate ∷ flows-val ys ∷ vint w64 n ∷ date-val today ∷ []) Post)
@@ -147,7 +135,7 @@ module _ {M : Type 1} (𝓤 : URA M) (H : Heap 𝓤) (A : Atoms 𝓤) (W : Given
         assigns ! (of-opd ! (load ! (from ! (stop !)) (look ! 10 refl))) (from ! (stop !)) (init ! 4 refl (flows-typed 𝓤 H A W 300 l₅ ys gy .0)) $
         assigns ! (addr ! (from ! (stop !))) (from ! (stop !)) (init ! 2 refl (tt, tt)) $
         assigns ! (agg ! (and-then ! (load ! (from ! (stop !)) (look ! 2 refl)) (and-then ! (load ! (from ! (stop !)) (look ! 8 refl)) (no-more !)))) (from ! (stop !)) (init ! 0 refl (tt, (tt, (record { fits = gn }, tt)))) $
-        rewrite ! 0 (λ (k : ℕ). ‵ (fat fullShare slice l₇ 0 (sliceVal (l₅, 0) k))) (sym taken) refl $
+        rewrite ! 0 (λ (k : ℕ). ‵ (fat fullShare slice l₇ 0 (sliceVal (l₅, 0) k))) (sym (first-many 300 n ys gy le)) refl $
         -- the first n flows are lent for a lifetime that is made here
         lft-new ! tt (λ α. move ! (5 ∷ []) $
         use1 W (later (some (λ (γ : GName). ‵ (ShrSlice (named 0) (α ∷ []) T.the-row .own (slice-of l₅ (take n ys) γ) (sliceVal (l₅, 0) (length (take n ys)) ∷ [])) ⊛ ‵ (Shared l₅ (α ∷ []) ys n))))
@@ -160,12 +148,12 @@ module _ {M : Type 1} (𝓤 : URA M) (H : Heap 𝓤) (A : Atoms 𝓤) (W : Given
         use1 W (later (some (λ (r : AmountAnswer). ((‵ (flft (α ∷ []) fullShare) ⊛ ‵ ftrue) ⊛ ‵ (E.the-row .own r (u ∷ []))) ⊛ raw (ensured 𝓤 H A callee.ended (callee.clauses 𝓤 H A mem run) ((α ∷ []), tt) (passed (α ∷ []) l₅ γ) tt r)))) (id⊢ 𝓤 _) $ await ! tt $ pick ! (λ r.
         split ! $ move ! (1 ∷ []) $ drop ! $ split ! $ move ! (1 ∷ []) $ peeks ! E.the-row (Is E.the-row) (shows 𝓤 H A E.the-row) r (u ∷ []) (λ is.
         land ! (from ! (stop !)) (init ! 16 refl (EL.lawful E.the-type E′.the-laws 𝓤 H A W tt .typed r (u ∷ []) is .0)) $
-        rewrite ! 16 (λ (v : Val). ‵ (fat fullShare E′.mir l₀ 0 v)) (told r u is) refl $ drop ! $ split ! $
+        rewrite ! 16 (λ (v : Val). ‵ (fat fullShare E′.mir l₀ 0 v)) (told E.the-type E′.the-laws r u is) refl $ drop ! $ split ! $
         -- the lifetime ends, and the array is whole again
-        lft-end ! tt $ move ! (0 ∷ 2 ∷ []) $ use2 W (later (given (Flows 300 ys) (‵ (fat fullShare (flows-ty 300) l₅ 0 (flows-val ys))))) (has-back 𝓤 H A W 300 l₅ (α ∷ []) ys n len) $ await ! tt $ learn ! (λ _.
+        lft-end ! tt $ move ! (0 ∷ 2 ∷ []) $ use2 W (later (given (Flows 300 ys) (‵ (fat fullShare (flows-ty 300) l₅ 0 (flows-val ys))))) (has-back 𝓤 H A W 300 l₅ (α ∷ []) ys n (as-many 300 ys gy)) $ await ! tt $ learn ! (λ _.
         returns ! (look ! 15 refl) $ forget ! 0 refl $ forget ! 2 refl $ forget ! 4 refl $ forget ! 7 refl $ forget ! 9 refl $ forget ! 11 refl $ forget ! 13 refl $ forget ! 15 refl $
         move ! (15 ∷ 16 ∷ []) $ free1 ! $ move ! (13 ∷ 14 ∷ []) $ free1 ! $ move ! (11 ∷ 12 ∷ []) $ free1 ! $ move ! (9 ∷ 10 ∷ []) $ free1 ! $ move ! (7 ∷ 8 ∷ []) $ free1 ! $ move ! (0 ∷ 6 ∷ []) $ free1 ! $ move ! (3 ∷ 4 ∷ []) $ free1 ! $ move ! (1 ∷ 2 ∷ []) $ free1 ! $ free0 ! $
-        keep ! [] $ by ! (exits r (held r u is))))))))))))))))
+        keep ! [] $ by ! (exits r (held E.the-type E′.the-laws r u is))))))))))))))))
 
 module _ {M : Type 1} (𝓤 : URA M) (H : Heap 𝓤) (A : Atoms 𝓤) (W : Given 𝓤 H A) (mem : Memory → SProp 𝓤) (run : Routine → Fun 𝓤) (𝓣 : Tables 𝓤 H) where
   walks : FmC 𝓤 H (W .laws) (𝓣 .C) → Triple 𝓤 (𝓣 .C callee-def.name) (Callee 𝓤 H A mem run) → Walks 𝓤 H A f.ended stayed (WpFn 𝓤 H (𝓣 .C) (𝓣 .Λ) code.function) (f.clauses 𝓤 H A mem run)

@@ -1,0 +1,45 @@
+-- Parts of a list, as a slice gives them, and what holds of every element; over any kind of element. Assumes nothing.
+use Prim.Native.Nat.{ℕ, zero, suc, _+_, _-_, _≤_, _<_}
+use mathlib.Core.Path.{_≡_, sym, ap, _∙_}
+use mathlib.Core.List.{List, [], _∷_, _++_}
+use native.Mathlib.Numerals.{add-one}
+use native.Mathlib.Omega.{arith}
+use lib.ListN.{length, take, drop, getD, length-drop}
+use lib.Seq.{take-all, drop-cons, drop-drop}
+use Rattle.paper.specs.Lists.{Every}
+
+module _ {A : Type 0} where
+  -- a part up to the end is all from its start on
+  pub part-from : (l : List A) (i : ℕ) → take (length l - i) (drop i l) ≡ drop i l
+  part-from l i = take-all (length l - i) (drop i l) (omega (arith, length-drop i l))
+
+  -- the rest from a place on begins with what stands there
+  pub head-at : (l : List A) (i : ℕ) (d : A) → i < length l → drop i l ≡ getD l i d ∷ drop (i + 1) l
+  head-at l i d h = rw (add-one i) (drop-cons l i d h)
+
+  -- lists that agree from a place on agree from each later one on
+  pub tails-agree : (l m : List A) (i j : ℕ) → i ≤ j → drop i l ≡ drop i m → drop j l ≡ drop j m
+  tails-agree l m i j h e =
+      let there : i + (j - i) ≡ j = omega arith in
+      ap (λ (k : ℕ). drop k l) (sym there) ∙ sym (drop-drop (j - i) i l) ∙ ap (drop (j - i)) e ∙ drop-drop (j - i) i m ∙ ap (λ (k : ℕ). drop k m) there
+
+-- what holds of every element holds of every one of two lists joined, of a part, and at each place
+module _ {A : Type 0} (P : A → Type 0) where
+  pub every-append : (l m : List A) → Every P l → Every P m → Every P (l ++ m)
+  every-append [] m h k = k
+  every-append (x ∷ l) m h k = (h .0, every-append l m (h .1) k)
+
+  pub every-take : (n : ℕ) (l : List A) → Every P l → Every P (take n l)
+  every-take zero l h = omega arith
+  every-take (suc n) [] h = h
+  every-take (suc n) (x ∷ l) h = (h .0, every-take n l (h .1))
+
+  pub every-drop : (n : ℕ) (l : List A) → Every P l → Every P (drop n l)
+  every-drop zero l h = h
+  every-drop (suc n) [] h = h
+  every-drop (suc n) (x ∷ l) h = every-drop n l (h .1)
+
+  pub every-at : (l : List A) (k : ℕ) (d : A) → Every P l → k < length l → P (getD l k d)
+  every-at [] k d a h = absurd (omega arith)
+  every-at (x ∷ l) zero d a h = a .0
+  every-at (x ∷ l) (suc k) d a h = every-at l k d (a .1) (omega arith)

@@ -12,7 +12,7 @@ use lib.Ieee.{Float, nan, inf, fin, up, down, binary64, fits}
 use lib.Ieee.Fits.{down-pos, and-r}
 use lib.Ieee.Nearest.{closest-mono}
 use lib.Ieee.Scale.{finite}
-use Rattle.rounding.specs.Close.{signed}
+use Rattle.rounding.specs.Close.{signed, signBit}
 use Rattle.rounding.proofs.Integers.{signed-parts}
 use Rattle.text.specs.Writing.{decimalText}
 use Rattle.text_lengths.proofs.Digits.{decimal-within}
@@ -20,7 +20,7 @@ use Rattle.cash_amount.specs.Amounts.{currencyText}
 use Rattle.cash_amount.specs.declared.Currency.{Currency}
 use Rattle.text_lengths.proofs.Signs.{sign-within}
 use Rattle.four_decimals.proofs.Texts.{signed-long, four-long}
-use Rattle.decimal.specs.Decimal.{isMinus, tenThousandths, decimalText16}
+use Rattle.decimal.specs.Decimal.{tenThousandths, decimalText16}
 use Rattle.decimal.proofs.Halves.{closest-whole}
 use Rattle.amount_text.specs.AmountTexts.{amountText}
 
@@ -51,7 +51,7 @@ decimal-long x h f =
     let whole : t / 10000 ≤ 2 ^ 1024 = div-le-of-le-mul 10000 (tens-most x h f) in
     let few : t / 10000 < 10 ^ 309 = lt-of-le-of-lt whole (lit< tt) in
     let w : length (decimalText (t / 10000)) ≤ 309 = decimal-within 309 (t / 10000) (omega arith) few in
-    omega (arith, signed-long (isMinus x) t, four-long t, sign-within (isMinus x))
+    omega (arith, signed-long (signBit x) t, four-long t, sign-within (signBit x))
 
 -- ---- an amount
 

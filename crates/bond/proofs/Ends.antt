@@ -4,13 +4,12 @@ use Prim.Native.Nat.{ℕ, _+_, _≤_, _<_}
 use mathlib.Core.Path.{_≡_, refl, sym, _∙_, ap}
 use mathlib.Core.Bool.{Bool, true, false, not}
 use native.Mathlib.Omega.{arith}
-use lib.Dec.{leb, ltb}
+use lib.Dec.{ltb}
 use lib.IntN.{pos}
 use lib.Signed.{ltZ, leZ}
 use borrow.Author.Tests.{lt-leb, le-leb, ltb-true, not-true}
 use Rattle.paper.specs.Outcome.{given, refused, pick, both}
 use Rattle.paper.proofs.Outcomes.{given-injective, unless-given, then-given, both-true}
-use Rattle.gregorian.specs.Gregorian.{monthLength}
 use Rattle.calendar.specs.Dates.{isDate, dayNumber}
 use Rattle.calendar.specs.declared.Date.{Date}
 use Rattle.calendar.proofs.Dates.{date-yes}
@@ -19,6 +18,7 @@ use Rattle.date_step.specs.Steps.{existingDate}
 use Rattle.time_period.specs.Steps.{needsTable}
 use Rattle.day_count_conv.proofs.Numbers.{above-one}
 use Rattle.coupon_date.specs.Coupons.{couponDate}
+use Rattle.coupon_date.proofs.Coupons.{coupon-yes}
 use Rattle.coupon_date.specs.declared.CouponDate.{CouponDate}
 use Rattle.cash_amount.specs.Amounts.{isCurrency}
 use Rattle.note_limits.specs.Limits.{isNoteNumber, isRate}
@@ -43,11 +43,7 @@ pub record Accepted (n : Note) : Type 0 where
 
 -- a coupon date that is given is the pair that was judged
 coupon-itself : (c x : CouponDate) → couponDate (c .day) (c .month) ≡ given x → couponDate (c .day) (c .month) ≡ given c
-unfolding couponDate
-coupon-itself c x e =
-    let a = unless-given (both (leb 1 (c .day)) (both (leb 1 (c .month)) (leb (c .month) 12))) 7 _ x e in
-    let b = unless-given (leb (c .day) (monthLength 2019 (c .month))) 8 (given c) x (a .1) in
-    e ∙ sym (b .1)
+coupon-itself c x e = e ∙ ap given (coupon-yes (c .day) (c .month) x e .itself)
 
 module _ (position table : Bool) (n m : Note) (e : noteChecks position table n ≡ given m) where
   -- the checks give the note that was judged, a position within its limits and a table that is taken

@@ -5,6 +5,7 @@ use mathlib.Core.Path.{_≡_, refl, sym, _∙_, ap}
 use mathlib.Core.Bool.{Bool, true, false}
 use native.Mathlib.Omega.{arith}
 use borrow.Author.Tests.{le-leb, leb-true}
+use Rattle.paper.proofs.Numbers.{between}
 use Rattle.paper.proofs.Outcomes.{both-true}
 use Rattle.gregorian.specs.Gregorian.{monthLength, yearLength, beforeYear, beforeMonth, unitOf}
 use Rattle.calendar.specs.Dates.{isDate, isDay, dayNumber, yearOf, inYear, theDate}
@@ -54,7 +55,7 @@ no-date t h = by (isDate t) refl
 
 pub day-yes : (d : Day) → isDay d ≡ true → (1 ≤ d .0) × (d .0 ≤ 3652059)
 unfolding isDay
-day-yes d e = let b = both-true _ _ e in (leb-true _ _ (b .0), leb-true _ _ (b .1))
+day-yes d e = between 1 (d .0) 3652059 e
 
 pub day-is : (d : Day) → 1 ≤ d .0 → d .0 ≤ 3652059 → isDay d ≡ true
 unfolding isDay

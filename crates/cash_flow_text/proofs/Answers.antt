@@ -5,13 +5,13 @@ use mathlib.Core.Bool.{Bool, true, false}
 use mathlib.Core.List.{List}
 use lib.ListN.{length}
 use lib.Ieee.Scale.{finite}
-use Rattle.paper.specs.Outcome.{given, refused, unless, andThen}
-use Rattle.paper.proofs.Outcomes.{given-injective, unless-given}
+use Rattle.paper.specs.Outcome.{given, refused, unless, andThen, passedAs}
+use Rattle.paper.proofs.Outcomes.{given-injective, unless-given, passed-given, passed-refused}
 use Rattle.calendar.specs.Dates.{isDate}
 use Rattle.cash_amount.specs.Amounts.{isCurrency}
 use Rattle.cash_flow.specs.declared.CashFlow.{CashFlow}
 use Rattle.amount_text.specs.AmountTexts.{amountText, amountShown}
-use Rattle.amount_text.proofs.Answers.{takes-given, takes-refused, amount-was}
+use Rattle.amount_text.proofs.Answers.{amount-was}
 use Rattle.cash_flow_text.specs.Texts.{flowText, flowShown}
 use Rattle.cash_flow_text.proofs.Lengths.{flow-long}
 
@@ -25,19 +25,19 @@ module _ (f : CashFlow) where
       go true false = refl
       go false b = refl
 
-  pub flow-given : (k : ℕ) → given k ≡ andThen (amountShown (f .amount) (f .currency)) (λ xs. given (length xs)) → isDate (f .date) ≡ true → given (11 + k) ≡ andThen (flowShown f) (λ xs. given (length xs))
+  pub flow-given : (k : ℕ) → given k ≡ passedAs length (amountShown (f .amount) (f .currency)) → isDate (f .date) ≡ true → given (11 + k) ≡ passedAs length (flowShown f)
   flow-given k e d =
-      let p = takes-given (amountShown (f .amount) (f .currency)) k e in
+      let p = passed-given length (amountShown (f .amount) (f .currency)) k (sym e) in
       let t = amount-was (f .amount) (f .currency) (p .0) (p .1) in
-      rw (flow-then, p .1, d) (ap given (rw (p .2, ← t .2) (sym (flow-long f d))))
+      rw (flow-then, p .1, d) (ap given (rw (← p .2, ← t .2) (sym (flow-long f d))))
 
-  pub flow-no-date : (k : ℕ) → given k ≡ andThen (amountShown (f .amount) (f .currency)) (λ xs. given (length xs)) → isDate (f .date) ≡ false → refused 1 ≡ andThen (flowShown f) (λ xs. given (length xs))
+  pub flow-no-date : (k : ℕ) → given k ≡ passedAs length (amountShown (f .amount) (f .currency)) → isDate (f .date) ≡ false → refused 1 ≡ passedAs length (flowShown f)
   flow-no-date k e d =
-      let p = takes-given (amountShown (f .amount) (f .currency)) k e in
+      let p = passed-given length (amountShown (f .amount) (f .currency)) k (sym e) in
       rw (flow-then, p .1, d)
 
-  pub flow-refused : (n : ℕ) → refused n ≡ andThen (amountShown (f .amount) (f .currency)) (λ xs. given (length xs)) → refused n ≡ andThen (flowShown f) (λ xs. given (length xs))
-  flow-refused n e = rw (flow-then, takes-refused (amountShown (f .amount) (f .currency)) n e)
+  pub flow-refused : (n : ℕ) → refused n ≡ passedAs length (amountShown (f .amount) (f .currency)) → refused n ≡ passedAs length (flowShown f)
+  flow-refused n e = rw (flow-then, passed-refused length (amountShown (f .amount) (f .currency)) n (sym e))
 
   pub flow-was : (xs : List ℕ) → flowShown f ≡ given xs → (finite (f .amount) ≡ true) × (isDate (f .date) ≡ true) × (flowText f ≡ xs)
   unfolding flowShown

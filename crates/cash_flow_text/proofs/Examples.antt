@@ -7,7 +7,7 @@ use lib.IntN.{pos}
 use lib.ListN.{replicate}
 use lib.Ieee.{Float, nan, fin}
 use Rattle.paper.specs.Outcome.{given, refused, andThen}
-use Rattle.text.specs.Writing.{digits, placesWithin, places, decimalText, paddedText, rightAligned, put, writtenLength, writtenBytes}
+use Rattle.text.specs.Writing.{digits, placesWithin, places, decimalText, paddedText, rightAligned, put, writtenLength, writtenBytes, shownBytes}
 use Rattle.gregorian.specs.Gregorian.{leap, lengthIn, monthLength}
 use Rattle.calendar.specs.Dates.{isDate}
 use Rattle.calendar.specs.declared.Date.{Date}
@@ -15,7 +15,7 @@ use Rattle.cash_amount.specs.Amounts.{isCapital, isCurrency}
 use Rattle.cash_amount.specs.declared.Currency.{Currency}
 use Rattle.cash_flow.specs.declared.CashFlow.{CashFlow}
 use Rattle.decimal.specs.Decimal.{tenThousandths, fourDecimals, decimalText16}
-use Rattle.date_text.specs.DateTexts.{dateText, dateShown, shownBytes}
+use Rattle.date_text.specs.DateTexts.{dateText, dateShown}
 use Rattle.amount_text.specs.AmountTexts.{amountText, amountShown}
 use Rattle.cash_flow_text.specs.Texts.{flowText, flowShown}
 use Rattle.calendar.proofs.Examples.{on}

@@ -6,15 +6,15 @@ use mathlib.Core.List.{List}
 use native.Mathlib.Omega.{arith}
 use lib.ListN.{length}
 use lib.Ieee.Scale.{finite}
-use Rattle.paper.specs.Outcome.{given, andThen, Numbered}
-use Rattle.paper.proofs.Outcomes.{unless-numbered}
+use Rattle.paper.specs.Outcome.{andThen, passedAs, Numbered}
+use Rattle.paper.proofs.Outcomes.{unless-numbered, passed-numbered}
 use Rattle.text.specs.Writing.{writtenLength}
 use Rattle.text.specs.declared.LengthAnswer.{LengthAnswer}
+use Rattle.text.proofs.OneOutcome.{one-writes, one-takes}
+use Rattle.text.proofs.Shown.{writes-numbered}
 use Rattle.calendar.specs.Dates.{isDate}
 use Rattle.cash_amount.specs.Amounts.{isCurrency}
 use Rattle.cash_flow.specs.declared.CashFlow.{CashFlow}
-use Rattle.date_text.proofs.OneOutcome.{one-writes, writes-numbered}
-use Rattle.amount_text.proofs.OneOutcome.{one-takes, takes-numbered}
 use Rattle.cash_flow_text.specs.Texts.{flowShown, FlowTakes, FlowWrites}
 
 -- ---- one outcome to each question
@@ -34,8 +34,8 @@ flow-shown-numbered f =
     (unless-numbered (isCurrency (f .currency)) 17 _ (omega arith)
     (unless-numbered (isDate (f .date)) 1 _ (omega arith) (omega arith)))
 
-pub flow-length-numbered : (f : CashFlow) → Numbered (andThen (flowShown f) (λ xs. given (length xs)))
-flow-length-numbered f = takes-numbered (flowShown f) (flow-shown-numbered f)
+pub flow-length-numbered : (f : CashFlow) → Numbered (passedAs length (flowShown f))
+flow-length-numbered f = passed-numbered length (flowShown f) (flow-shown-numbered f)
 
 pub flow-numbered : (f : CashFlow) (d : List ℕ) → Numbered (andThen (flowShown f) (writtenLength d))
 flow-numbered f d = writes-numbered (flowShown f) d (flow-shown-numbered f)

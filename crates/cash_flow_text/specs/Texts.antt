@@ -3,12 +3,13 @@ use Prim.Native.Nat.{ℕ}
 use mathlib.Core.List.{List, _∷_, _++_}
 use lib.Ieee.Scale.{finite}
 use Rattle.paper.specs.Outcome.{Outcome, given, unless}
+use Rattle.text.specs.Writing.{Writes, Takes}
 use Rattle.text.specs.declared.LengthAnswer.{LengthAnswer}
 use Rattle.calendar.specs.Dates.{isDate}
-use Rattle.date_text.specs.DateTexts.{dateText, Writes}
+use Rattle.date_text.specs.DateTexts.{dateText}
 use Rattle.cash_amount.specs.Amounts.{isCurrency}
 use Rattle.cash_flow.specs.declared.CashFlow.{CashFlow}
-use Rattle.amount_text.specs.AmountTexts.{amountText, Takes}
+use Rattle.amount_text.specs.AmountTexts.{amountText}
 
 -- a flow: its date, a blank, and its amount
 unfoldable pub flowText : CashFlow → List ℕ

@@ -1,2 +1,3 @@
+pub mod Coupons
 pub mod OneOutcome
 pub mod Examples

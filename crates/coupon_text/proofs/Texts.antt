@@ -1,24 +1,24 @@
 -- The text of a coupon date: its length, and that it reads back.
 -- Assumes nothing.
 use Prim.Native.Nat.{ℕ, _+_, _≤_, _<_}
-use mathlib.Core.Path.{_≡_, refl, sym, _∙_, ap, ap₂}
+use mathlib.Core.Path.{_≡_, refl, _∙_, ap, ap₂}
 use mathlib.Core.Bool.{true, false}
 use mathlib.Core.List.{List, [], _∷_, _++_}
 use native.Mathlib.Omega.{arith}
-use lib.Dec.{eqb, leb}
+use lib.Dec.{eqb}
 use lib.ListN.{length, length-append}
-use borrow.Author.Tests.{ne-eqb, lt-leb, le-leb, leb-true}
-use Rattle.paper.specs.Outcome.{given, both}
-use Rattle.paper.proofs.Outcomes.{both-true, unless-given, given-injective}
+use borrow.Author.Tests.{ne-eqb, lt-leb, le-leb}
+use Rattle.paper.specs.Outcome.{given}
+use Rattle.paper.proofs.Outcomes.{both-true}
 use Rattle.reading.specs.Reading.{isDigit, allDigits}
 use Rattle.text.specs.Writing.{paddedText}
 use Rattle.reading.proofs.Decimals.{digit-bounds}
 use Rattle.text_lengths.proofs.Digits.{length-padded, places-least, digits-all}
 use Rattle.text_lengths.proofs.RoundTrips.{padded-back}
-use Rattle.gregorian.specs.Gregorian.{monthLength}
 use Rattle.coupon_text.specs.CouponTexts.{isBlank, trimStart, before, trimEnd, trimmed, hasDot, upToDot, afterDot, monthPart, dayPart, couponText, couponDateText}
 use Rattle.coupon_date.specs.Coupons.{couponDate}
 use Rattle.coupon_date.specs.declared.CouponDate.{CouponDate}
+use Rattle.coupon_date.proofs.Coupons.{coupon-yes}
 use Rattle.gregorian.proofs.Months.{at-most}
 
 pub text-length : (c : CouponDate) → length (couponDateText c) ≡ length (paddedText 2 (c .day)) + 1 + length (paddedText 2 (c .month))
@@ -106,20 +106,10 @@ text-back c d m =
     ap dayPart (ap trimEnd (start-visible v) ∙ end-visible v)
     ∙ rw (has-dot t s ds, up-to-dot t s ds, after-dot t s ds, padded-back 6 2 (c .day) d, no-dot t dt, padded-back 6 2 (c .month) m)
 
--- what is accepted has numbers of at most two digits
-pub accepted-small : (d m : ℕ) (c : CouponDate) → couponDate d m ≡ given c → (c .day ≡ d) × (c .month ≡ m) × (d ≤ 31) × (m ≤ 12)
-unfolding couponDate
-accepted-small d m c e =
-    let g = unless-given (both (leb 1 d) (both (leb 1 m) (leb m 12))) 7 _ c e in
-    let k = both-true (leb 1 m) (leb m 12) (both-true (leb 1 d) _ (g .0) .1) in
-    let h = unless-given (leb d (monthLength 2019 m)) 8 _ c (g .1) in
-    let q : _≡_ {A = CouponDate} (record { day = d; month = m }) c = given-injective (h .1) in
-    let l : d ≤ monthLength 2019 m = leb-true _ _ (h .0) in
-    let x : m ≤ 12 = leb-true _ _ (k .1) in
-    (ap (λ (x : CouponDate). x .day) (sym q), ap (λ (x : CouponDate). x .month) (sym q), omega (arith, at-most 2019 m), x)
-
 -- every accepted coupon date is read back from its text
 pub round-trip : (d m : ℕ) (c : CouponDate) → couponDate d m ≡ given c → couponText (couponDateText c) ≡ given c
 round-trip d m c e =
-    let k = accepted-small d m c e in
-    text-back c (omega arith) (omega arith) ∙ ap₂ couponDate (k .0) (k .1) ∙ e
+    let k = coupon-yes d m c e in
+    let day : c .day ≡ d = ap (λ (x : CouponDate). x .day) (k .itself) in
+    let month : c .month ≡ m = ap (λ (x : CouponDate). x .month) (k .itself) in
+    text-back c (omega (arith, k .day-to, at-most 2019 m)) (omega (arith, k .month-to)) ∙ ap₂ couponDate day month ∙ e

@@ -1,15 +1,14 @@
 -- The text of a date: how long it is, and which answers the tests leave. Assumes nothing.
 use Prim.Native.Nat.{ℕ, _≤_, _<_, _^_, max}
-use mathlib.Core.Path.{_≡_, refl, ap, _∙_}
+use mathlib.Core.Path.{_≡_, ap, _∙_}
 use mathlib.Core.Bool.{true, false}
-use mathlib.Core.List.{List, _∷_, _++_}
+use mathlib.Core.List.{_∷_, _++_}
 use lib.ListN.{length, length-append}
-use Rattle.paper.specs.Outcome.{Outcome, given, refused, andThen}
-use Rattle.text.specs.Writing.{Wrote, writtenLength, digits, places, paddedText}
-use Rattle.text.proofs.Writers.{written-fits, written-refused}
+use Rattle.paper.specs.Outcome.{given, refused}
+use Rattle.text.specs.Writing.{digits, places, paddedText}
 use Rattle.calendar.specs.Dates.{isDate}
 use Rattle.calendar.specs.declared.Date.{Date}
-use Rattle.date_text.specs.DateTexts.{dateText, dateShown, shownBytes}
+use Rattle.date_text.specs.DateTexts.{dateText, dateShown}
 use native.Mathlib.Omega.{arith}
 use Rattle.text_lengths.proofs.Digits.{length-digits, places-least}
 use Rattle.calendar.proofs.Dates.{date-yes}
@@ -35,18 +34,6 @@ pub date-long : (t : Date) → isDate t ≡ true → length (dateText t) ≡ 10
 date-long t h =
     let rest = (45 ∷ digits 2 (t .month)) ++ (45 ∷ digits 2 (t .day)) in
     ap length (date-digits t h) ∙ omega (arith, length-append (digits 4 (t .year)) rest, length-digits 4 (t .year), month-day-long (t .month) (t .day))
-
--- ---- any text that may be refused: written with room, not written without it, refused
-
-module _ (o : Outcome (List ℕ)) (d : List ℕ) where
-  pub writes-all : (xs e : List ℕ) (r : ℕ) → o ≡ given xs → Wrote d e 0 xs r → length xs ≤ length d → (given r ≡ andThen o (writtenLength d)) × (e ≡ shownBytes d o)
-  writes-all xs e r q w h = rw (q) (written-fits d e xs r w h)
-
-  pub writes-short : (xs : List ℕ) → o ≡ given xs → length d < length xs → (refused 16 ≡ andThen o (writtenLength d)) × (d ≡ shownBytes d o)
-  writes-short xs q h = rw (q) (written-refused d xs h)
-
-  pub writes-none : (n : ℕ) → o ≡ refused n → (refused n ≡ andThen o (writtenLength d)) × (d ≡ shownBytes d o)
-  writes-none n q = rw (q) (refl, refl)
 
 -- ---- a date
 

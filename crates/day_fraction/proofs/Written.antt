@@ -1,5 +1,6 @@
 -- The `f64` operations as the code writes them, with each literal by its pattern, are those of the definitions.
 -- Assumes nothing.
+use Prim.Native.Nat.{ℕ}
 use mathlib.Core.Path.{_≡_, refl, ap₂}
 use lib.IntN.{ℤ, pos}
 use lib.Ieee.{Float, binary64, add, div, ofInt, ofBits}
@@ -9,26 +10,21 @@ lit12 : ofBits binary64 0x4028_0000_0000_0000 ≡ whole (pos 12)
 unfolding ofBits ofInt
 lit12 = refl
 
-lit360 : ofBits binary64 0x4076_8000_0000_0000 ≡ whole (pos 360)
+pub lit360 : ofBits binary64 0x4076_8000_0000_0000 ≡ whole (pos 360)
 unfolding ofBits ofInt
 lit360 = refl
 
-lit365 : ofBits binary64 0x4076_d000_0000_0000 ≡ whole (pos 365)
+pub lit365 : ofBits binary64 0x4076_d000_0000_0000 ≡ whole (pos 365)
 unfolding ofBits ofInt
 lit365 = refl
 
-lit366 : ofBits binary64 0x4076_e000_0000_0000 ≡ whole (pos 366)
+pub lit366 : ofBits binary64 0x4076_e000_0000_0000 ≡ whole (pos 366)
 unfolding ofBits ofInt
 lit366 = refl
 
-pub over-366 : {y z : ℤ} → y ≡ z → div binary64 (whole y) (ofBits binary64 0x4076_e000_0000_0000) ≡ over z 366
-over-366 e = ap₂ (λ (z : ℤ) (x : Float). div binary64 (whole z) x) e lit366
-
-pub over-365 : {y z : ℤ} → y ≡ z → div binary64 (whole y) (ofBits binary64 0x4076_d000_0000_0000) ≡ over z 365
-over-365 e = ap₂ (λ (z : ℤ) (x : Float). div binary64 (whole z) x) e lit365
-
-pub over-360 : {y z : ℤ} → y ≡ z → div binary64 (whole y) (ofBits binary64 0x4076_8000_0000_0000) ≡ over z 360
-over-360 e = ap₂ (λ (z : ℤ) (x : Float). div binary64 (whole z) x) e lit360
+-- a whole number over a literal
+pub over-by : (n : ℕ) {x : Float} {y z : ℤ} → x ≡ whole (pos n) → y ≡ z → div binary64 (whole y) x ≡ over z n
+over-by n l e = ap₂ (λ (z : ℤ) (x : Float). div binary64 (whole z) x) e l
 
 pub thirties-written : (y m d : ℤ) {Y M D : Float} → Y ≡ whole y → M ≡ whole m → D ≡ whole d
     → add binary64 (add binary64 Y (div binary64 M (ofBits binary64 0x4028_0000_0000_0000))) (div binary64 D (ofBits binary64 0x4076_8000_0000_0000)) ≡ thirtiesBits y m d

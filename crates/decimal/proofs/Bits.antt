@@ -14,7 +14,8 @@ use lib.Ieee.Nearest.{closest, closest-same}
 use lib.Ieee.Scale.{finite}
 use Rattle.rounding.proofs.Integers.{signed-parts}
 use Rattle.rounding.proofs.Fields.{few-value, some-value, not-finite}
-use Rattle.decimal.specs.Decimal.{isMinus, tenThousandths}
+use Rattle.rounding.specs.Close.{signBit}
+use Rattle.decimal.specs.Decimal.{tenThousandths}
 use Rattle.decimal.specs.Parts.{PartsOf}
 use Rattle.decimal.specs.declared.Parts.the-variants.{Small, Large, NotFinite}
 use Rattle.decimal.proofs.Halves.{closest-whole}
@@ -48,7 +49,7 @@ exact q k h =
 
 -- the number v is finite, has the sign s, and t ten-thousandths
 abbrev Is : Float → Bool → ℕ → Type 0
-Is v s t = (finite v ≡ true) × (s ≡ isMinus v) × (t ≡ tenThousandths v)
+Is v s t = (finite v ≡ true) × (s ≡ signBit v) × (t ≡ tenThousandths v)
 
 by-value : (v : Float) (s : Bool) (a c t : ℕ) → 0 < c → HasValue v s a c → t ≡ closest (a * 10000) c → Is v s t
 unfolding tenThousandths

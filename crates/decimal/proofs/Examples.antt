@@ -6,9 +6,9 @@ use mathlib.Core.List.{List, [], _∷_, _++_}
 use lib.IntN.{pos, negsuc}
 use lib.ListN.{length, replicate}
 use lib.Ieee.{nan, inf, fin}
-use Rattle.paper.specs.Outcome.{given, refused}
-use Rattle.text.specs.Writing.{digits, placesWithin, places, decimalText, rightAligned, put, writtenLength, writtenBytes}
-use Rattle.decimal.specs.Decimal.{tenThousandths, fourDecimals, decimalText16, decimalLength, decimalWritten, decimalBytes}
+use Rattle.paper.specs.Outcome.{given, refused, andThen, passedAs}
+use Rattle.text.specs.Writing.{digits, placesWithin, places, decimalText, rightAligned, put, writtenLength, writtenBytes, shownBytes}
+use Rattle.decimal.specs.Decimal.{tenThousandths, fourDecimals, decimalText16, decimalShown}
 
 -- n blanks before a text
 abbrev after : ℕ → List ℕ → List ℕ
@@ -47,16 +47,16 @@ texts =
 
 -- 15 comes before 16, whatever the room; 15 bytes are too few for 0.0000
 pub record Refusals : Type 0 where
-  pub not-a-number : decimalWritten [] nan ≡ refused 15
-  pub infinity : decimalWritten (replicate 400 7) (inf true) ≡ refused 15
-  pub no-room : decimalWritten (replicate 15 7) (fin false 0 (pos 0)) ≡ refused 16
-  pub kept : decimalBytes (replicate 15 7) (fin false 0 (pos 0)) ≡ replicate 15 7
-  pub room : decimalWritten (replicate 18 7) (fin false 0 (pos 0)) ≡ given 16
-  pub written : decimalBytes (replicate 18 7) (fin false 0 (pos 0)) ≡ after 10 (48 ∷ 46 ∷ 48 ∷ 48 ∷ 48 ∷ 48 ∷ 7 ∷ 7 ∷ [])
-  pub no-length : decimalLength nan ≡ refused 15
+  pub not-a-number : andThen (decimalShown nan) (writtenLength []) ≡ refused 15
+  pub infinity : andThen (decimalShown (inf true)) (writtenLength (replicate 400 7)) ≡ refused 15
+  pub no-room : andThen (decimalShown (fin false 0 (pos 0))) (writtenLength (replicate 15 7)) ≡ refused 16
+  pub kept : shownBytes (replicate 15 7) (decimalShown (fin false 0 (pos 0))) ≡ replicate 15 7
+  pub room : andThen (decimalShown (fin false 0 (pos 0))) (writtenLength (replicate 18 7)) ≡ given 16
+  pub written : shownBytes (replicate 18 7) (decimalShown (fin false 0 (pos 0))) ≡ after 10 (48 ∷ 46 ∷ 48 ∷ 48 ∷ 48 ∷ 48 ∷ 7 ∷ 7 ∷ [])
+  pub no-length : passedAs length (decimalShown nan) ≡ refused 15
 
 pub refusals : Refusals
-unfolding tenThousandths fourDecimals decimalText16 decimalLength decimalWritten decimalBytes digits placesWithin places decimalText rightAligned put writtenLength writtenBytes
+unfolding tenThousandths fourDecimals decimalText16 decimalShown digits placesWithin places decimalText rightAligned put writtenLength writtenBytes
 refusals =
     record {
       not-a-number = refl;

@@ -5,12 +5,13 @@ use mathlib.Core.Path.{_≡_}
 use mathlib.Core.Bool.{true, false}
 use lib.Ieee.{Float}
 use lib.Ieee.Scale.{finite}
-use Rattle.decimal.specs.Decimal.{isMinus, tenThousandths}
+use Rattle.rounding.specs.Close.{signBit}
+use Rattle.decimal.specs.Decimal.{tenThousandths}
 use Rattle.decimal.specs.declared.Parts.{Parts}
 use Rattle.decimal.specs.declared.Parts.the-variants.{Small, Large, NotFinite}
 
 -- p is the number x: its sign, and its ten-thousandths as n or as n * 2 ^ twos
 abbrev pub PartsOf : Float → Parts → Type 0
-PartsOf x (Small s n) = (finite x ≡ true) × (s ≡ isMinus x) × (n ≡ tenThousandths x)
-PartsOf x (Large s n twos) = (finite x ≡ true) × (s ≡ isMinus x) × (n * 2 ^ twos ≡ tenThousandths x) × (n < 2 ^ 63) × (twos ≤ 975)
+PartsOf x (Small s n) = (finite x ≡ true) × (s ≡ signBit x) × (n ≡ tenThousandths x)
+PartsOf x (Large s n twos) = (finite x ≡ true) × (s ≡ signBit x) × (n * 2 ^ twos ≡ tenThousandths x) × (n < 2 ^ 63) × (twos ≤ 975)
 PartsOf x NotFinite = finite x ≡ false

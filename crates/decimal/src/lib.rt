@@ -7,7 +7,7 @@ ghost use lib.Ieee.{binary64, ofBits};
 ghost use lib.Ieee.Nearest.{closest};
 ghost use lib.Ieee.Scale.{finite};
 ghost use Rattle.text.specs.Writing.{Wrote};
-ghost use Rattle.decimal.specs.Decimal.{decimalText16, TakesFourDecimals, WritesFourDecimals};
+ghost use Rattle.decimal.specs.Decimal.{decimalText16, DecimalTakes, DecimalWrites};
 ghost use Rattle.decimal.specs.Parts.{PartsOf};
 use text::LengthAnswer;
 
@@ -80,7 +80,7 @@ fn parts_of(x: f64) -> Parts
 
 // How many bytes the text of x takes.
 pub fn decimal_length(x: f64) -> LengthAnswer
-    ensures { λ r. ⌜ TakesFourDecimals x r ⌝ }
+    ensures { λ r. ⌜ DecimalTakes x r ⌝ }
 {
     match parts_of(x) {
         Parts::Small(negative, tens) => LengthAnswer::Length(four_decimals::small_length(
@@ -115,7 +115,7 @@ pub fn put_decimal_at(x: f64, out: &mut [u8], at: usize) -> usize
 
 // What `{:16.4}` of an f64 writes.
 pub fn write_decimal(x: f64, out: &mut [u8]) -> LengthAnswer
-    ensures { λ r. ⌜ WritesFourDecimals x (now (out .entry)) (now (out .exit)) r ⌝ }
+    ensures { λ r. ⌜ DecimalWrites x (now (out .entry)) (now (out .exit)) r ⌝ }
 {
     match decimal_length(x) {
         LengthAnswer::Length(k) => {

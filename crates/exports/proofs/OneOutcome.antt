@@ -9,11 +9,12 @@ use native.Mathlib.Omega.{arith}
 use lib.Dec.{ltb}
 use lib.IntN.{ℤ}
 use lib.Ieee.{Float}
-use lib.Ieee.Scale.{finite}
-use Rattle.paper.specs.Outcome.{Outcome, given, refused, andThen, Numbered}
-use Rattle.paper.proofs.Outcomes.{unless-numbered, then-numbered}
+use Rattle.paper.specs.Outcome.{Outcome, given, refused, andThen, passedAs, Numbered}
+use Rattle.paper.proofs.Outcomes.{unless-numbered, then-numbered, passed-numbered}
 use Rattle.text.specs.Writing.{writtenLength}
 use Rattle.text.proofs.Writers.{written-numbered}
+use Rattle.decimal.specs.Decimal.{decimalShown}
+use Rattle.decimal.proofs.OneOutcome as decimal
 use Rattle.calendar.specs.declared.Day.{Day}
 use Rattle.calendar.specs.declared.Date.{Date}
 use Rattle.coupon_date.specs.declared.CouponDate.{CouponDate}
@@ -45,16 +46,15 @@ use Rattle.rollout.proofs.OneOutcome.{rollout-numbered}
 use Rattle.accrued_interest.specs.Accrued.{accrued}
 use Rattle.accrued_interest.specs.Accrued as interest
 use Rattle.accrued_interest.proofs.OneOutcome.{accrued-numbered}
-use Rattle.room.specs.Room.{counted}
 use Rattle.listed_flows.specs.Listed.{Listed}
 use Rattle.listed_flows.specs.Listed.{listedWritten}
 use Rattle.listed_flows.proofs.OneOutcome.{listed-numbered}
 use Rattle.rates.specs.Rates.{discountFactor, discountedStream}
 use Rattle.rates.proofs.OneOutcome.{factor-numbered, stream-numbered}
-use Rattle.hand_over_plain.specs.HandOver.{HandsOver, passedAs}
-use Rattle.hand_over_plain.proofs.OneOutcome.{one-handed, passed-numbered}
+use Rattle.hand_over_plain.specs.HandOver.{HandsOver}
+use Rattle.hand_over_plain.proofs.OneOutcome.{one-handed}
 use Rattle.c_numbers.specs.Numbers.{date, periodOf, adjustmentOf, flatRate, noteOf}
-use Rattle.exports.specs.Rooms.{textIn, decimalShown, flowsIn, listedIn}
+use Rattle.exports.specs.Rooms.{textIn, flowsIn, listedIn}
 
 -- ---- one outcome, by what is lent: `one-handed` and `one-number` of hand_over for one number and for none
 
@@ -108,8 +108,7 @@ shown-numbered (given xs) d h = text-numbered d xs
 shown-numbered (refused n) d h = h
 
 pub decimal-numbered : (x : Float) (d : List ℕ) → Numbered (andThen (decimalShown x) (textIn d))
-unfolding decimalShown
-decimal-numbered x d = then-numbered (decimalShown x) (textIn d) (unless-numbered (finite x) 15 _ (omega arith) (omega arith)) (text-numbered d)
+decimal-numbered x d = shown-numbered (decimalShown x) d (decimal.decimal-numbered d x)
 
 pub flow-text-numbered : (f : CashFlow) (d : List ℕ) → Numbered (andThen (flowShown f) (textIn d))
 flow-text-numbered f d = shown-numbered (flowShown f) d (flow-numbered f d)
@@ -163,9 +162,5 @@ module _ (o : Outcome Note) (h : Numbered o) where
   write-face-numbered table d = then-numbered o _ h (λ n. shown-numbered (packedNote n table) d (write-numbered n table d))
 
 -- flows after a day
-listed-passed : (days currencies : List ℕ) (amounts : List Float) (o : Outcome (List Listed)) → Numbered (counted o) → Numbered (passedAs (listedIn days currencies amounts) o)
-listed-passed days currencies amounts (given l) h = h
-listed-passed days currencies amounts (refused n) h = h
-
 pub after-face-numbered : (day : Day) (flows : List Listed) (places : ℕ) (days currencies : List ℕ) (amounts : List Float) → Numbered (passedAs (listedIn days currencies amounts) (listedWritten day flows places))
-after-face-numbered day flows places days currencies amounts = listed-passed days currencies amounts (listedWritten day flows places) (listed-numbered day flows places)
+after-face-numbered day flows places days currencies amounts = passed-numbered _ (listedWritten day flows places) (listed-numbered day flows places)

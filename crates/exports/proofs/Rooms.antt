@@ -7,19 +7,15 @@ use mathlib.Core.List.{List}
 use lib.Dec.{leb}
 use lib.ListN.{length}
 use lib.Ieee.{Float}
-use lib.Ieee.Scale.{finite}
-use Rattle.paper.specs.Outcome.{Outcome, given, refused, unless, andThen, pick}
-use Rattle.text.specs.Writing.{put, writtenLength, writtenBytes, Written}
-use Rattle.decimal.specs.Decimal.{decimalText16, decimalWritten, decimalBytes}
-use Rattle.date_text.specs.DateTexts.{shownBytes}
-use Rattle.packed_write.specs.Writing.{bytesAfter}
+use Rattle.paper.specs.Outcome.{Outcome, given, refused, unless, andThen, passedAs, pick}
+use Rattle.text.specs.Writing.{put, writtenLength, writtenBytes, Written, shownBytes}
 use Rattle.room.specs.Room.{counted, roomAfter}
 use Rattle.cash_flow.specs.declared.CashFlow.{CashFlow}
 use Rattle.note_flows.specs.NoteFlows.{dayOf, amountOf}
 use Rattle.listed_flows.specs.Listed.{Listed}
 use Rattle.listed_flows.specs.Listed.{ListedContents}
-use Rattle.hand_over_plain.specs.HandOver.{HandsOver, passedAs}
-use Rattle.exports.specs.Rooms.{textIn, decimalShown, flowsIn, listedIn}
+use Rattle.hand_over_plain.specs.HandOver.{HandsOver}
+use Rattle.exports.specs.Rooms.{textIn, flowsIn, listedIn}
 
 -- of the old and the new bytes d and e, and of the place for the length before and after
 module _ (d e : List ℕ) (a : Outcome ℕ) (r old new : ℕ) (h : HandsOver a r old new) where
@@ -34,18 +30,6 @@ module _ (d e : List ℕ) (a : Outcome ℕ) (r old new : ℕ) (h : HandsOver a r
   pub shown-handed : (o : Outcome (List ℕ)) → a ≡ andThen o (writtenLength d) → e ≡ shownBytes d o → HandsOver (andThen o (textIn d)) r (old, d) (new, e)
   shown-handed (given xs) p q = text-handed xs (p, q)
   shown-handed (refused n) p q = let g : HandsOver {A = ℕ} (refused n) r old new = rw p at h in (g .0, cc)
-
-  pub packed-handed : (o : Outcome (List ℕ)) → a ≡ andThen o (writtenLength d) → e ≡ bytesAfter d o → HandsOver (andThen o (textIn d)) r (old, d) (new, e)
-  packed-handed (given xs) p q = shown-handed (given xs) p q
-  packed-handed (refused n) p q = shown-handed (refused n) p q
-
-  pub decimal-handed : (x : Float) → a ≡ decimalWritten d x → e ≡ decimalBytes d x → HandsOver (andThen (decimalShown x) (textIn d)) r (old, d) (new, e)
-  unfolding decimalShown decimalWritten decimalBytes
-  decimal-handed x p q = by (finite x) p q
-    where
-      by : (b : Bool) → a ≡ unless b 15 (writtenLength d (decimalText16 x)) → e ≡ pick b (writtenBytes d (decimalText16 x)) d → HandsOver (andThen (unless b 15 (given (decimalText16 x))) (textIn d)) r (old, d) (new, e)
-      by true p q = shown-handed (given (decimalText16 x)) p q
-      by false p q = shown-handed (refused 15) p q
 
 -- of a count of flows and the lists that they are in
 module _ (a : Outcome ℕ) (r old new : ℕ) (h : HandsOver a r old new) where

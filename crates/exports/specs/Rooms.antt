@@ -4,23 +4,16 @@ use Prim.Native.Nat.{ℕ}
 use mathlib.Core.List.{List}
 use lib.ListN.{length}
 use lib.Ieee.{Float}
-use lib.Ieee.Scale.{finite}
-use Rattle.paper.specs.Outcome.{Outcome, given, unless}
+use Rattle.paper.specs.Outcome.{Outcome, given, passedAs}
 use Rattle.text.specs.Writing.{writtenLength, writtenBytes}
-use Rattle.decimal.specs.Decimal.{decimalText16}
 use Rattle.room.specs.Room.{roomAfter}
 use Rattle.cash_flow.specs.declared.CashFlow.{CashFlow}
 use Rattle.note_flows.specs.NoteFlows.{dayOf, amountOf}
 use Rattle.listed_flows.specs.Listed.{Listed}
-use Rattle.hand_over_plain.specs.HandOver.{passedAs}
 
 -- text in lent bytes: how many it takes, and the bytes with it in front; 16 where they are too few
 unfoldable pub textIn : List ℕ → List ℕ → Outcome (ℕ × List ℕ)
 textIn d xs = passedAs (λ k. (k, writtenBytes d xs)) (writtenLength d xs)
-
--- an amount as text: 15 where it is not finite
-unfoldable pub decimalShown : Float → Outcome (List ℕ)
-decimalShown x = unless (finite x) 15 (given (decimalText16 x))
 
 -- flows in two lent lists: how many, their serial days and their amounts
 abbrev pub flowsIn : List ℕ → List Float → List CashFlow → ℕ × List ℕ × List Float

@@ -7,8 +7,8 @@ use mathlib.Core.List.{List}
 use native.Mathlib.Omega.{arith}
 use Rattle.paper.specs.Outcome.{given, Numbered, both}
 use Rattle.paper.proofs.Outcomes.{unless-numbered}
-use Rattle.room.specs.Room.{fitting, counted}
-use Rattle.room.proofs.Fitting.{counted-numbered, fitting-numbered}
+use Rattle.room.specs.Room.{fitting}
+use Rattle.room.proofs.Fitting.{fitting-numbered}
 use Rattle.calendar.specs.Dates.{isDate}
 use Rattle.calendar.specs.declared.Date.{Date}
 use Rattle.cash_flow.specs.declared.CashFlow.{CashFlow}
@@ -21,11 +21,10 @@ use Rattle.fixed_income.specs.Promises.{recordsWritten, AfterPromise}
 pub one-after : (flows : List CashFlow) (date : Date) (room e f : List CashFlow) (r s : FlowsAnswer) → AfterPromise flows date room r e → AfterPromise flows date room s f → (r ≡ s) × (e ≡ f)
 one-after flows date room e f r s p q = (same-flows-answer r s (p .answer ∙ sym (q .answer)), p .contents ∙ sym (q .contents))
 
-pub numbered : {A : Type 0} (ok : Bool) (dated later : A → Bool) (xs : List A) (places : ℕ) → Numbered (counted (fitting places (after ok dated later xs)))
+pub numbered : {A : Type 0} (ok : Bool) (dated later : A → Bool) (xs : List A) (places : ℕ) → Numbered (fitting places (after ok dated later xs))
 numbered ok dated later xs places =
-    counted-numbered (fitting places (after ok dated later xs))
-    (fitting-numbered places (after ok dated later xs) (unless-numbered (both ok (allOf dated xs)) 1 (given (laterOf later xs)) (omega arith) (omega arith)))
+    fitting-numbered places (after ok dated later xs) (unless-numbered (both ok (allOf dated xs)) 1 (given (laterOf later xs)) (omega arith) (omega arith))
 
-pub after-numbered : (flows : List CashFlow) (date : Date) (places : ℕ) → Numbered (counted (recordsWritten flows date places))
+pub after-numbered : (flows : List CashFlow) (date : Date) (places : ℕ) → Numbered (recordsWritten flows date places)
 unfolding recordsWritten flowsAfter
 after-numbered flows date places = numbered (isDate date) hasDate (isLater date) flows places

@@ -1,6 +1,6 @@
 // How the other answers are handed over to C, and all of them under one name for `exports`.
 ghost use mathlib.Core.Path.{_≡_};
-ghost use Rattle.paper.specs.Outcome.{number};
+ghost use Rattle.paper.specs.Outcome.{number, passedAs};
 ghost use Rattle.holidays.specs.Answers.{businessOutcome};
 ghost use Rattle.time_period.specs.Periods.{periodOutcome, frequencyOutcome};
 ghost use Rattle.day_count_conv.specs.Conventions.{fractionOutcome};
@@ -8,7 +8,7 @@ ghost use Rattle.cash_amount.specs.Amounts.{amountOutcome};
 ghost use Rattle.rates.specs.Rates.{factorOutcome};
 ghost use Rattle.cash_flow.specs.Flows.{flowsOutcome};
 ghost use Rattle.bond.specs.Notes.{noteOutcome};
-ghost use Rattle.hand_over_plain.specs.HandOver.{HandsOver, yesNo, passedAs};
+ghost use Rattle.hand_over_plain.specs.HandOver.{HandsOver, yesNo};
 ghost use Rattle.hand_over.specs.Coded.{coded};
 use bond::NoteAnswer;
 use cash_amount::AmountAnswer;

@@ -5,7 +5,7 @@ use mathlib.Core.Path.{_≡_, sym, _∙_, ap}
 use native.Mathlib.Omega.{arith}
 use Rattle.paper.specs.Outcome.{Outcome, given, refused, number, Numbered}
 use Rattle.paper.proofs.Outcomes.{one-value, fixed-by-parts}
-use Rattle.hand_over_plain.specs.HandOver.{HandsOver, passedAs}
+use Rattle.hand_over_plain.specs.HandOver.{HandsOver}
 
 -- no second number, and no second contents, of all that is lent
 pub one-handed : {A : Type 0} (o : Outcome A) (r s : ℕ) (old a b : A) → HandsOver o r old a → HandsOver o s old b → (r ≡ s) × (a ≡ b)
@@ -28,7 +28,3 @@ answered (refused k) old new h e = absurd (omega (arith, e .0))
 pub kept : {A : Type 0} (o : Outcome A) (r : ℕ) (old new : A) → HandsOver o r old new → (r ≡ 0 → ⊥) → new ≡ old
 kept (given a) r old new e n = absurd (n (e .0))
 kept (refused k) r old new e n = e .1
-
-pub passed-numbered : {A B : Type 0} (form : A → B) (o : Outcome A) → Numbered o → Numbered (passedAs form o)
-passed-numbered form (given a) h = h
-passed-numbered form (refused k) h = h

@@ -3,7 +3,7 @@
 use Prim.Native.Nat.{ℕ}
 use mathlib.Core.Path.{_≡_}
 use mathlib.Core.Bool.{Bool}
-use Rattle.paper.specs.Outcome.{Outcome, given, number, value, andThen, pick}
+use Rattle.paper.specs.Outcome.{Outcome, number, value, pick}
 
 -- the refusal's number is returned, or 0; what is lent holds the value then, and its old contents where there is none.
 -- All that is lent is one value: a number, a date's three numbers, a count and the lists that it counts
@@ -13,7 +13,3 @@ HandsOver o r old new = (r ≡ number o) × (new ≡ value old o)
 -- yes and no are 1 and 0
 abbrev pub yesNo : Bool → ℕ
 yesNo b = pick b 1 0
-
--- a value that passes in another form
-abbrev pub passedAs : {A B : Type 0} → (A → B) → Outcome A → Outcome B
-passedAs form o = andThen o (λ a. given (form a))

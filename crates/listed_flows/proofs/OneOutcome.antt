@@ -5,7 +5,6 @@ use mathlib.Core.Path.{_≡_, sym, _∙_}
 use mathlib.Core.List.{List}
 use lib.Ieee.{Float}
 use Rattle.paper.specs.Outcome.{Numbered}
-use Rattle.room.specs.Room.{counted}
 use Rattle.calendar.specs.Dates.{isDay}
 use Rattle.calendar.specs.declared.Day.{Day}
 use Rattle.cash_flow.specs.declared.FlowsAnswer.{FlowsAnswer}
@@ -23,6 +22,6 @@ one-listed day flows ds cs xs r s d₁ c₁ d₂ c₂ x₁ x₂ p q = (
   p .contents .amounts-are ∙ sym (q .contents .amounts-are),
 )
 
-pub listed-numbered : (day : Day) (flows : List Listed) (places : ℕ) → Numbered (counted (listedWritten day flows places))
+pub listed-numbered : (day : Day) (flows : List Listed) (places : ℕ) → Numbered (listedWritten day flows places)
 unfolding listedWritten listedAfter
 listed-numbered day flows places = numbered (isDay day) (λ f. isDayNumber (f .day)) (λ f. isLaterDay day (f .day)) flows places

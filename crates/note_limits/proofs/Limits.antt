@@ -1,69 +1,61 @@
 -- The machine's tests of a rate are the paper's.
 -- Assumes nothing.
-use Prim.Native.Nat.{ℕ, zero, suc, _+_, _/_, _%_, _^_, _<_, _≤_}
+use Prim.Native.Nat.{ℕ, _/_, _%_, _^_, _<_, _≤_}
 use mathlib.Core.Path.{_≡_, refl, sym, ap, _∙_, subst}
-use mathlib.Core.Bool.{Bool, true, false, cond}
+use mathlib.Core.Bool.{true, false, true≢false}
 use mathlib.Core.Logic.{_⊎_, inl, inr, ⊎-elim}
 use native.Mathlib.Omega.{arith}
-use lib.Dec.{T, leb, eqb}
+use lib.Dec.{T, leb}
 use lib.IntN.{ℤ, pos}
-use lib.Ieee.{Float, nan, inf, fin, binary64, odd, ofFields, ofBits, toBits, ofInt, fits, ne, le}
+use lib.Ieee.{Float, nan, inf, fin, binary64, ofFields, ofBits, toBits, ofInt, fits, ne, le}
 use lib.Ieee.Bits.{ofBits-toBits, toBits-lt}
 use lib.Ieee.Compare.{differs-from-itself}
-use borrow.Author.Tests.{le-leb, lt-leb, ne-eqb}
+use lib.Ieee.Scale.{finite}
+use borrow.Author.Tests.{le-leb, lt-leb}
 use Rattle.paper.proofs.Numbers.{lt-or-le, next-up}
+use Rattle.rounding.proofs.Fields.{not-finite, is-finite}
 use Rattle.cash_amount.proofs.Limits.{plus-most}
 use Rattle.note_limits.specs.Limits.{isNoteNumber, isRate}
 use Rattle.note_limits.specs.declared.NoteNumber.{NoteNumber}
 
 -- ---- a rate
 
--- what `odd` makes has the sign it is given
-odd-signed : (d : ℕ) (s : Bool) (q k l : ℕ) → (m : ℕ) × (e : ℤ) × (odd d s q k l ≡ fin s m e)
-unfolding odd
-odd-signed d s zero k l = (_, _, refl)
-odd-signed d s (suc q) k l = (_, _, refl)
+-- what is not finite is no rate
+not-finite-no-rate : (x : Float) → finite x ≡ false → isRate x ≡ false
+unfolding isRate
+not-finite-no-rate nan e = refl
+not-finite-no-rate (inf true) e = refl
+not-finite-no-rate (inf false) e = refl
+not-finite-no-rate (fin s m d) e = absurd (true≢false e)
 
-negative : (x t : ℕ) → isRate (ofFields binary64 true x t) ≡ false
-unfolding ofFields isRate
-negative zero t = ap isRate (odd-signed 53 true t 0 1074 .2)
-negative (suc x) t = by (eqb (suc x) 2047) (eqb t 0)
-  where
-    by : (a b : Bool) → isRate (cond a (cond b (inf true) nan) (odd 53 true (4503599627370496 + t) x 1074)) ≡ false
-    by true true = refl
-    by true false = refl
-    by false b = ap isRate (odd-signed 53 true (4503599627370496 + t) x 1074 .2)
+-- nor what has its sign bit set
+negative-no-rate : (m : ℕ) (e : ℤ) → isRate (fin true m e) ≡ false
+unfolding isRate
+negative-no-rate m e = refl
 
-not-finite : (s : Bool) (t : ℕ) → isRate (ofFields binary64 s 2047 t) ≡ false
-unfolding ofFields isRate
-not-finite s t = by s (eqb t 0)
-  where
-    by : (s b : Bool) → isRate (cond b (inf s) nan) ≡ false
-    by true true = refl
-    by false true = refl
-    by s false = refl
-
-plain : (x t : ℕ) → x < 2047 → (m : ℕ) × (e : ℤ) × (ofFields binary64 false x t ≡ fin false m e)
-unfolding ofFields
-plain zero t h = odd-signed 53 false t 0 1074
-plain (suc x) t h = rw (ne-eqb (suc x) 2047 (λ e. omega arith)) (odd-signed 53 false (4503599627370496 + t) x 1074)
+negative : (x t : ℕ) → (x < 2047) ⊎ (x ≡ 2047) → isRate (ofFields binary64 true x t) ≡ false
+negative x t (inl l) = let z = is-finite true x t l in rw (z .2) (negative-no-rate (z .0) (z .1))
+negative x t (inr e) = rw (e) (not-finite-no-rate (ofFields binary64 true 2047 t) (not-finite true t))
 
 -- from these bits on the sign bit is set or the number is not finite; below them it is finite and its sign bit is clear
 pub high-bits : (b : ℕ) → 9218868437227405312 ≤ b → b < 2 ^ 64 → isRate (ofBits binary64 b) ≡ false
 unfolding ofBits
 high-bits b h l = by (lt-or-le b 9223372036854775808)
   where
+    field : ℕ
+    field = b % 9223372036854775808 / 4503599627370496
+
     by : (b < 9223372036854775808) ⊎ (9223372036854775808 ≤ b) → isRate (ofBits binary64 b) ≡ false
-    by (inr k) = rw (le-leb 9223372036854775808 b k) (negative (b % 9223372036854775808 / 4503599627370496) (b % 4503599627370496))
+    by (inr k) = rw (le-leb 9223372036854775808 b k) (negative field (b % 4503599627370496) (⊎-elim (λ m. inl m) (λ m. inr (omega arith)) (lt-or-le field 2047)))
     by (inl k) =
-        let e : b % 9223372036854775808 / 4503599627370496 ≡ 2047 = omega arith in
-        rw e (not-finite (leb 9223372036854775808 b) (b % 4503599627370496))
+        let e : field ≡ 2047 = omega arith in
+        rw e (not-finite-no-rate (ofFields binary64 (leb 9223372036854775808 b) 2047 (b % 4503599627370496)) (not-finite (leb 9223372036854775808 b) (b % 4503599627370496)))
 
 pub low-bits : (b : ℕ) → b < 9218868437227405312 → (m : ℕ) × (e : ℤ) × (ofBits binary64 b ≡ fin false m e)
 unfolding ofBits
 low-bits b h =
     rw (lt-leb 9223372036854775808 b (omega arith))
-    (plain (b % 9223372036854775808 / 4503599627370496) (b % 4503599627370496) (omega arith))
+    (is-finite false (b % 9223372036854775808 / 4503599627370496) (b % 4503599627370496) (omega arith))
 
 hundred-is : ofBits binary64 4636737291354636288 ≡ fin false 25 (pos 2)
 unfolding ofBits

@@ -1,22 +1,17 @@
 -- The limits of a note's number and of its rate.
 -- Assumes nothing.
 use Prim.Native.Nat.{_^_}
-use mathlib.Core.Bool.{Bool, false, not}
+use mathlib.Core.Bool.{Bool, not}
 use lib.Dec.{leb, ltb}
-use lib.Ieee.{Float, nan, inf, fin}
+use lib.Ieee.{Float}
 use Rattle.paper.specs.Outcome.{both}
+use Rattle.rounding.specs.Close.{signBit}
 use Rattle.cash_amount.specs.Amounts.{upTo}
 use Rattle.note_limits.specs.declared.NoteNumber.{NoteNumber}
 
 -- number: 1 to 10 digits
 unfoldable pub isNoteNumber : NoteNumber → Bool
 isNoteNumber n = both (both (leb 1 (n .count)) (leb (n .count) 10)) (ltb (n .digits) (10 ^ n .count))
-
--- the sign bit, which a zero has too
-abbrev pub signBit : Float → Bool
-signBit nan = false
-signBit (inf s) = s
-signBit (fin s m e) = s
 
 -- rate in percent: finite, 0 to 100, a zero with its sign bit set refused
 unfoldable pub isRate : Float → Bool

@@ -10,9 +10,9 @@ use lib.Ieee.{Float, nan, binary64, fits}
 use lib.Ieee.Scale.{finite}
 use lib.ListN.{length, drop, getD, length-append, drop-of-length-le}
 use Rattle.paper.proofs.Lists.{head-at}
-use Rattle.paper.specs.Outcome.{Outcome, given, refused, andThen}
-use Rattle.paper.proofs.Outcomes.{given-injective, refused-injective, given-not-refused, unless-given, then-given}
-use Rattle.text.specs.Writing.{put, Wrote, Written}
+use Rattle.paper.specs.Outcome.{Outcome, given, refused, andThen, passedAs}
+use Rattle.paper.proofs.Outcomes.{given-injective, refused-injective, given-not-refused, unless-given, passed-given, passed-refused}
+use Rattle.text.specs.Writing.{put, Wrote, Written, Takes}
 use Rattle.text.proofs.Writers.{written-fits, written-refused}
 use Rattle.text.proofs.Putting.{put-none, put-put, length-put}
 use Rattle.text.specs.declared.LengthAnswer.the-variants.{Length, Refused}
@@ -24,7 +24,7 @@ use Rattle.cash_flow_text.specs.Texts.{flowText, flowShown}
 use Rattle.cash_flow_text.proofs.Lengths.{flow-most}
 use Rattle.refusal_text.specs.RefusalTexts.{refusedText}
 use Rattle.note_lines.specs.Lines.{lineShown, linesOf, answerText}
-use Rattle.note_lines.specs.Steps.{flowOn, flowsIn, Taken, textOf, LineFits}
+use Rattle.note_lines.specs.Steps.{flowOn, flowsIn, textOf, LineFits}
 
 -- ---- one line
 
@@ -50,21 +50,17 @@ pub line-refused : (f : CashFlow) (n : ℕ) → flowShown f ≡ refused n → li
 unfolding lineShown
 line-refused f n e = rw (e)
 
-then-refused : {A B : Type 0} (o : Outcome A) (f : A → B) (n : ℕ) → andThen o (λ a. given (f a)) ≡ refused n → o ≡ refused n
-then-refused (given a) f n e = absurd (given-not-refused e)
-then-refused (refused m) f n e = ap refused (refused-injective e)
-
-pub line-takes : (f : CashFlow) (k : ℕ) → T (fits binary64 (f .amount)) → given k ≡ andThen (flowShown f) (λ t. given (length t)) → (Taken (lineShown f) (Length (k + 1))) × (k + 1 ≤ 331)
+pub line-takes : (f : CashFlow) (k : ℕ) → T (fits binary64 (f .amount)) → given k ≡ passedAs length (flowShown f) → (Takes (lineShown f) (Length (k + 1))) × (k + 1 ≤ 331)
 line-takes f k h e =
-    let g = then-given (flowShown f) (λ t. given (length t)) k (sym e) in
+    let g = passed-given length (flowShown f) k (sym e) in
     let s = seen f (g .0) (g .1) in
-    let n : length (g .0) ≡ k = given-injective (g .2) in
+    let n : length (g .0) ≡ k = g .2 in
     let most : length (flowText f) ≤ 330 = flow-most f h (s .amount) (s .date) in
     let same : length (flowText f) ≡ length (g .0) = ap length (s .text) in
     (rw (line-given f (g .0) (g .1), length-append (g .0) (10 ∷ []), n), omega arith)
 
-pub line-takes-none : (f : CashFlow) (n : ℕ) → refused n ≡ andThen (flowShown f) (λ t. given (length t)) → Taken (lineShown f) (Refused n)
-line-takes-none f n e = rw (line-refused f n (then-refused (flowShown f) length n (sym e)))
+pub line-takes-none : (f : CashFlow) (n : ℕ) → refused n ≡ passedAs length (flowShown f) → Takes (lineShown f) (Refused n)
+line-takes-none f n e = rw (line-refused f n (passed-refused length (flowShown f) n (sym e)))
 
 -- ---- lines one after the other
 
@@ -88,7 +84,7 @@ lines-none = refl
 pub measured : ℕ → Outcome (List ℕ) → Outcome ℕ
 measured total o = andThen o (λ t. given (total + length t))
 
-pub measured-all : (o : Outcome (List ℕ)) → measured 0 o ≡ andThen o (λ t. given (length t))
+pub measured-all : (o : Outcome (List ℕ)) → measured 0 o ≡ passedAs length o
 unfolding measured
 measured-all (given t) = ap given (omega arith)
 measured-all (refused n) = refl
@@ -102,18 +98,18 @@ unfolding measured
 measured-then total t (given rest) = ap given (omega (arith, length-append t rest))
 measured-then total t (refused n) = refl
 
-pub measured-more : (total k : ℕ) (f : CashFlow) (fs : List CashFlow) (z : Outcome ℕ) → measured total (linesOf (f ∷ fs)) ≡ z → given k ≡ andThen (lineShown f) (λ t. given (length t)) → measured (total + k) (linesOf fs) ≡ z
+pub measured-more : (total k : ℕ) (f : CashFlow) (fs : List CashFlow) (z : Outcome ℕ) → measured total (linesOf (f ∷ fs)) ≡ z → given k ≡ passedAs length (lineShown f) → measured (total + k) (linesOf fs) ≡ z
 unfolding measured
 measured-more total k f fs z e h =
-    let g = then-given (lineShown f) (λ t. given (length t)) k (sym h) in
-    let n : length (g .0) ≡ k = given-injective (g .2) in
+    let g = passed-given length (lineShown f) k (sym h) in
+    let n : length (g .0) ≡ k = g .2 in
     let line : linesOf (f ∷ fs) ≡ andThen (linesOf fs) (λ rest. given (g .0 ++ rest)) = lines-cons f fs ∙ ap (λ (o : Outcome (List ℕ)). andThen o (λ t. andThen (linesOf fs) (λ rest. given (t ++ rest)))) (g .1) in
     ap (λ (j : ℕ). measured (total + j) (linesOf fs)) (sym n) ∙ sym (measured-then total (g .0) (linesOf fs)) ∙ ap (measured total) (sym line) ∙ e
 
-pub measured-refused : (total n : ℕ) (f : CashFlow) (fs : List CashFlow) (z : Outcome ℕ) → measured total (linesOf (f ∷ fs)) ≡ z → refused n ≡ andThen (lineShown f) (λ t. given (length t)) → refused n ≡ z
+pub measured-refused : (total n : ℕ) (f : CashFlow) (fs : List CashFlow) (z : Outcome ℕ) → measured total (linesOf (f ∷ fs)) ≡ z → refused n ≡ passedAs length (lineShown f) → refused n ≡ z
 unfolding measured
 measured-refused total n f fs z e h =
-    let g : lineShown f ≡ refused n = then-refused (lineShown f) length n (sym h) in
+    let g : lineShown f ≡ refused n = passed-refused length (lineShown f) n (sym h) in
     let line : linesOf (f ∷ fs) ≡ refused n = lines-cons f fs ∙ ap (λ (o : Outcome (List ℕ)). andThen o (λ t. andThen (linesOf fs) (λ rest. given (t ++ rest)))) g in
     sym (ap (measured total) line) ∙ e
 

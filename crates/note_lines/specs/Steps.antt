@@ -1,11 +1,10 @@
 -- What the inner functions hand each other; no promise of an entry point rests on this.
 -- Assumes nothing.
 use Prim.Native.Nat.{ℕ, _+_, _≤_, _<_}
-use mathlib.Core.Path.{_≡_}
 use mathlib.Core.List.{List, [], _∷_}
 use lib.ListN.{length}
 use lib.Ieee.{Float}
-use Rattle.paper.specs.Outcome.{Outcome, given, refused, andThen, value}
+use Rattle.paper.specs.Outcome.{Outcome, given, refused, value}
 use Rattle.text.specs.Writing.{lengthOutcome, Written}
 use Rattle.text.specs.declared.LengthAnswer.{LengthAnswer}
 use Rattle.text.specs.declared.LengthAnswer.the-variants.{Length, Refused}
@@ -23,10 +22,6 @@ abbrev pub flowsIn : Currency → List ℕ → List Float → List CashFlow
 flowsIn c [] xs = []
 flowsIn c (d ∷ ds) [] = []
 flowsIn c (d ∷ ds) (x ∷ xs) = flowOn c d x ∷ flowsIn c ds xs
-
--- how many bytes lines take
-abbrev pub Taken : Outcome (List ℕ) → LengthAnswer → Type 0
-Taken o r = lengthOutcome r ≡ andThen o (λ t. given (length t))
 
 -- a length that is given is at most n
 abbrev pub AtMost : ℕ → LengthAnswer → Type 0

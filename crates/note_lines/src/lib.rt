@@ -2,9 +2,9 @@
 ghost use mathlib.Core.Path.{_≡_};
 ghost use Prim.Native.Nat.{_≤_};
 ghost use lib.ListN.{length};
-ghost use Rattle.text.specs.Writing.{put, Wrote};
+ghost use Rattle.text.specs.Writing.{put, Wrote, Takes};
 ghost use Rattle.note_lines.specs.Lines.{lineShown, linesOf};
-ghost use Rattle.note_lines.specs.Steps.{flowOn, flowsIn, Taken, AtMost, textOf, LineFits, LinesWritten};
+ghost use Rattle.note_lines.specs.Steps.{flowOn, flowsIn, AtMost, textOf, LineFits, LinesWritten};
 use cash_amount::Currency;
 use cash_flow::CashFlow;
 use text::LengthAnswer;
@@ -21,7 +21,7 @@ fn flow_on(currency: Currency, day: u32, amount: f64) -> CashFlow
 
 // How many bytes a line takes.
 fn line_length(currency: Currency, day: u32, amount: f64) -> LengthAnswer
-    ensures { λ r. ⌜ (Taken (lineShown (flowOn currency day amount)) r) × (AtMost 331 r) ⌝ }
+    ensures { λ r. ⌜ (Takes (lineShown (flowOn currency day amount)) r) × (AtMost 331 r) ⌝ }
 {
     match cash_flow_text::cash_flow_length(flow_on(currency, day, amount)) {
         LengthAnswer::Length(k) => LengthAnswer::Length(k + 1),
@@ -32,7 +32,7 @@ fn line_length(currency: Currency, day: u32, amount: f64) -> LengthAnswer
 // How many bytes all lines take, or the first refusal.
 fn lines_length(currency: Currency, days: &[u32], amounts: &[f64]) -> LengthAnswer
     requires { ⌜ (length (now days) ≤ 2000) × (length (now days) ≤ length (now amounts)) ⌝ }
-    ensures { λ r. ⌜ (Taken (linesOf (flowsIn currency (now (days .entry)) (now (amounts .entry)))) r) × (AtMost 662000 r) ⌝ }
+    ensures { λ r. ⌜ (Takes (linesOf (flowsIn currency (now (days .entry)) (now (amounts .entry)))) r) × (AtMost 662000 r) ⌝ }
 {
     let mut total: usize = 0;
     let mut i: usize = 0;

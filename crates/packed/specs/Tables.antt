@@ -5,7 +5,7 @@ use mathlib.Core.Path.{_≡_}
 use mathlib.Core.List.{List, _++_}
 use lib.Dec.{leb}
 use lib.ListN.{length, drop}
-use Rattle.paper.specs.Outcome.{Outcome, given, refused, unless, andThen}
+use Rattle.paper.specs.Outcome.{Outcome, given, refused, unless, andThen, passedAs}
 use Rattle.bond.specs.declared.Note.{Note}
 use Rattle.packed_numbers.specs.Numbers.{rawOf}
 use Rattle.packed_note.specs.Records.{noteIn}
@@ -37,8 +37,7 @@ packedOutcome (packed-answer.Refused n) = refused n
 
 -- what it says of the note: the holidays are counted
 abbrev pub countedDays : Outcome Unpacked → Outcome PackedNote
-countedDays (given p) = given (record { note = p .note; holidays = length (p .days) })
-countedDays (refused n) = refused n
+countedDays o = passedAs (λ p. record { note = p .note; holidays = length (p .days) }) o
 
 -- the lent places afterwards: the holidays in front of what was there, or all that was there
 abbrev pub daysAfter : Outcome Unpacked → List ℕ → List ℕ

@@ -3,12 +3,13 @@
 use Prim.Native.Nat.{ℕ, zero, suc, _+_, _-_, _*_, _/_, _%_, _^_, _≤_, _<_}
 use mathlib.Core.Path.{_≡_, refl, sym, ap, _∙_}
 use mathlib.Core.Bool.{Bool, true, false, _&&_}
-use native.Mathlib.Nat.{pow-suc, pow-le-pow-right, div-div-eq-div-mul, div-one}
+use native.Mathlib.Nat.{pow-suc, pow-le-pow-right, div-one}
 use native.Mathlib.Numerals.{add-one}
 use native.Mathlib.Omega.{arith}
 use lib.Dec.{ltb}
 use lib.Pow.{pow-add}
 use Rattle.paper.specs.Outcome.{pick}
+use Rattle.paper.proofs.Numbers.{digits-apart}
 use Rattle.packed_note.specs.Codes.{placeGood, digitsGood, digitsNumber}
 
 -- ---- ten places of four bits
@@ -22,23 +23,16 @@ sixteens (suc j) =
 pub four-bits : (k : ℕ) → k ≤ 10 → 2 ^ (40 - 4 * k) ≡ 16 ^ (10 - k)
 four-bits k h = let e : 40 - 4 * k ≡ 4 * (10 - k) = omega arith in rw (e) (sixteens (10 - k))
 
--- one place more: the next four bits
-pub places-next : (n k : ℕ) → k < 10 → n / 16 ^ (10 - (k + 1)) / 16 ≡ n / 16 ^ (10 - k)
-places-next n k h =
-    let m : ℕ = 10 - (k + 1) in
-    let e : 10 - k ≡ suc m = omega arith in
-    div-div-eq-div-mul n (16 ^ m) 16 ∙ rw (e) (ap (λ (x : ℕ). n / x) (sym (pow-suc 16 m)))
-
 pub places-all : (n : ℕ) → n / 16 ^ (10 - 10) ≡ n
 places-all n = div-one n
 
 pub good-more : (c n k p : ℕ) (a b : Bool) → k < 10 → a ≡ digitsGood c k (n / 16 ^ (10 - k)) → p ≡ n / 16 ^ (10 - (k + 1)) → b ≡ placeGood c k (p % 16) → (a && b) ≡ digitsGood c (k + 1) (n / 16 ^ (10 - (k + 1)))
 unfolding digitsGood
-good-more c n k p a b h e f g = rw (e, g, f, ← places-next n k h) (ap (λ (j : ℕ). digitsGood c j (n / 16 ^ (10 - (k + 1)))) (sym (add-one k)))
+good-more c n k p a b h e f g = rw (e, g, f, ← digits-apart 16 n 10 k h) (ap (λ (j : ℕ). digitsGood c j (n / 16 ^ (10 - (k + 1)))) (sym (add-one k)))
 
 pub number-more : (c n k p m r : ℕ) → k < 10 → m ≡ digitsNumber c k (n / 16 ^ (10 - k)) → p ≡ n / 16 ^ (10 - (k + 1)) → r ≡ pick (ltb k c) (m * 10 + p % 16) m → r ≡ digitsNumber c (k + 1) (n / 16 ^ (10 - (k + 1)))
 unfolding digitsNumber
-number-more c n k p m r h e f g = g ∙ rw (e, f, ← places-next n k h) (ap (λ (j : ℕ). digitsNumber c j (n / 16 ^ (10 - (k + 1)))) (sym (add-one k)))
+number-more c n k p m r h e f g = g ∙ rw (e, f, ← digits-apart 16 n 10 k h) (ap (λ (j : ℕ). digitsNumber c j (n / 16 ^ (10 - (k + 1)))) (sym (add-one k)))
 
 -- ten places, whatever is in them, make no large number
 pub number-most : (c k n : ℕ) → digitsNumber c k n + 2 ≤ 2 * 10 ^ k

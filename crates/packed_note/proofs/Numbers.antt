@@ -5,11 +5,12 @@ use mathlib.Core.Path.{_≡_, refl, subst}
 use mathlib.Core.Bool.{Bool, true, false, not}
 use native.Mathlib.Nat.{pow-suc}
 use native.Mathlib.Omega.{arith}
-use borrow.Author.Tests.{lt-ltb, le-ltb, ltb-true, ltb-false, leb-true, eqb-true}
+use borrow.Author.Tests.{lt-ltb, le-ltb, ltb-true, ltb-false, eqb-true}
 use lib.Dec.{T, ltb, leb}
 use lib.Ieee.{binary64, nanBits, isNan}
 use lib.Ieee.Bits.{nanBits-is}
 use Rattle.paper.specs.Outcome.{pick, both}
+use Rattle.paper.proofs.Numbers.{between}
 use Rattle.paper.proofs.Outcomes.{both-true}
 use Rattle.note_limits.specs.Limits.{isNoteNumber}
 use Rattle.note_limits.proofs.Limits.{low-bits}
@@ -63,6 +64,6 @@ pub number-accepted : (r : Raw) → numberGood (r .count) (r .digits) ≡ true �
 unfolding numberGood isNoteNumber
 number-accepted r e =
     let parts = both-true (both (leb 1 (r .count)) (leb (r .count) 10)) (digitsGood (r .count) 10 (r .digits)) e in
-    let most = leb-true (r .count) 10 (both-true (leb 1 (r .count)) (leb (r .count) 10) (parts .0) .1) in
+    let most = between 1 (r .count) 10 (parts .0) .1 in
     let m : min 10 (r .count) ≡ r .count = omega arith in
     rw (parts .0) (lt-ltb (digitsNumber (r .count) 10 (r .digits)) (10 ^ r .count) (subst (λ (j : ℕ). digitsNumber (r .count) 10 (r .digits) < 10 ^ j) m (number-below (r .count) 10 (r .digits) (parts .1))))

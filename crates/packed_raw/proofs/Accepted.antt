@@ -10,14 +10,15 @@ use lib.IntN.{ℤ, pos, natAbs}
 use lib.Signed.{leZ, ltZ}
 use lib.Ieee.{Float, nan, inf, fin, binary64, fits, isNan}
 use lib.Ieee.Bits.{toBits-lt}
-use Rattle.paper.specs.Outcome.{given, unless, both}
-use Rattle.paper.proofs.Outcomes.{both-true, unless-given}
-use Rattle.gregorian.specs.Gregorian.{monthLength}
+use Rattle.paper.specs.Outcome.{given, both}
+use Rattle.paper.proofs.Numbers.{between}
+use Rattle.paper.proofs.Outcomes.{both-true}
 use Rattle.gregorian.proofs.Months.{at-most}
 use Rattle.calendar.specs.Dates.{isDate}
 use Rattle.calendar.specs.declared.Date.{Date}
 use Rattle.calendar.proofs.Dates.{date-yes}
 use Rattle.coupon_date.specs.Coupons.{couponDate}
+use Rattle.coupon_date.proofs.Coupons.{coupon-yes}
 use Rattle.coupon_date.specs.declared.CouponDate.{CouponDate}
 use Rattle.cash_amount.specs.Amounts.{isCapital, isCurrency}
 use Rattle.cash_amount.specs.declared.Currency.{Currency}
@@ -56,7 +57,7 @@ pub record Capitals (c : Currency) : Type 0 where
 
 capital : (b : ℕ) → isCapital b ≡ true → (65 ≤ b) × (b ≤ 90)
 unfolding isCapital
-capital b e = let p = both-true (leb 65 b) (leb b 90) e in (leb-true 65 b (p .0), leb-true b 90 (p .1))
+capital b e = between 65 b 90 e
 
 pub capitals : (c : Currency) → isCurrency c ≡ true → Capitals c
 unfolding isCurrency
@@ -74,12 +75,7 @@ date-fits : (t : Date) → isDate t ≡ true → AllFit (dateFields t)
 date-fits t e = let h = date-yes t e in (omega (arith, h .year-to), (omega (arith, h .month-to), (omega (arith, h .day-to, at-most (t .year) (t .month)), omega arith)))
 
 coupon-fits : (c : CouponDate) → couponDate (c .day) (c .month) ≡ given c → AllFit (couponFields c)
-unfolding couponDate
-coupon-fits c e =
-    let a = unless-given (both (leb 1 (c .day)) (both (leb 1 (c .month)) (leb (c .month) 12))) 7 (unless (leb (c .day) (monthLength 2019 (c .month))) 8 (given c)) c e in
-    let b = unless-given (leb (c .day) (monthLength 2019 (c .month))) 8 (given c) c (a .1) in
-    let m = both-true (leb 1 (c .month)) (leb (c .month) 12) (both-true (leb 1 (c .day)) (both (leb 1 (c .month)) (leb (c .month) 12)) (a .0) .1) in
-    (omega (arith, leb-true (c .day) (monthLength 2019 (c .month)) (b .0), at-most 2019 (c .month)), (omega (arith, leb-true (c .month) 12 (m .1)), omega arith))
+coupon-fits c e = let h = coupon-yes (c .day) (c .month) c e in (omega (arith, h .day-to, at-most 2019 (c .month)), (omega (arith, h .month-to), omega arith))
 
 -- ---- terms
 
@@ -119,8 +115,8 @@ pub digits-known : (n : NoteNumber) → isNoteNumber n ≡ true → Digits n
 unfolding isNoteNumber
 digits-known n e =
     let p = both-true (both (leb 1 (n .count)) (leb (n .count) 10)) (ltb (n .digits) (10 ^ n .count)) e in
-    let q = both-true (leb 1 (n .count)) (leb (n .count) 10) (p .0) in
-    record { from = leb-true 1 (n .count) (q .0); to = leb-true (n .count) 10 (q .1); below = ltb-true (n .digits) (10 ^ n .count) (p .1) }
+    let q = between 1 (n .count) 10 (p .0) in
+    record { from = q .0; to = q .1; below = ltb-true (n .digits) (10 ^ n .count) (p .1) }
 
 -- ---- all of them
 

@@ -3,12 +3,13 @@
 use Prim.Native.Nat.{ℕ, zero, suc, _+_, _-_, _*_, _/_, _%_, _^_, _≤_, _<_}
 use mathlib.Core.Path.{_≡_, refl, sym, ap, _∙_}
 use mathlib.Core.Bool.{Bool, true, false}
-use native.Mathlib.Nat.{pow-suc, pow-le-pow-right, div-div-eq-div-mul, div-one}
+use native.Mathlib.Nat.{pow-suc, pow-le-pow-right, div-one}
 use native.Mathlib.Numerals.{add-one}
 use native.Mathlib.Omega.{arith}
 use borrow.Author.Tests.{lt-ltb, le-ltb, ltb-true, ltb-false}
 use lib.Dec.{ltb}
 use Rattle.paper.specs.Outcome.{pick}
+use Rattle.paper.proofs.Numbers.{digits-apart}
 use Rattle.packed_raw.specs.Codes.{digitsPlaces}
 
 -- ---- powers of ten
@@ -18,13 +19,6 @@ ten-more k p e = rw (add-one k, e) (sym (pow-suc 10 k))
 
 pub ten-small : (k p : ℕ) → p ≡ 10 ^ k → k ≤ 10 → p ≤ 10000000000
 ten-small k p e h = let l : 10 ^ k ≤ 10 ^ 10 = pow-le-pow-right (omega arith) h in omega arith
-
--- the digits before the place k are those before the next, without its own
-digits-next : (c d k : ℕ) → k < c → d / 10 ^ (c - (k + 1)) / 10 ≡ d / 10 ^ (c - k)
-digits-next c d k h =
-    let m : ℕ = c - (k + 1) in
-    let e : c - k ≡ suc m = omega arith in
-    div-div-eq-div-mul d (10 ^ m) 10 ∙ rw (e) (ap (λ (x : ℕ). d / x) (sym (pow-suc 10 m)))
 
 -- ---- places one after the other
 
@@ -54,7 +48,7 @@ places-more c d k n p e f = by (ltb k c) refl
     by true t =
         let h : k < c = ltb-true k c t in
         let q : p ≡ d / 10 ^ (c - (k + 1)) % 10 = f ∙ rw (t) in
-        rw (e, q, ← digits-next c d k h) (sym (places-used c k (d / 10 ^ (c - (k + 1))) h) ∙ ap (λ (j : ℕ). digitsPlaces c j (d / 10 ^ (c - (k + 1)))) (sym (add-one k)))
+        rw (e, q, ← digits-apart 10 d c k h) (sym (places-used c k (d / 10 ^ (c - (k + 1))) h) ∙ ap (λ (j : ℕ). digitsPlaces c j (d / 10 ^ (c - (k + 1)))) (sym (add-one k)))
     by false t =
         let h : c ≤ k = ltb-false k c t in
         let q : p ≡ 15 = f ∙ rw (t) in

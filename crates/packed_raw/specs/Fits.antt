@@ -3,10 +3,11 @@
 use Prim.Native.Nat.{_^_, _<_}
 use mathlib.Core.Path.{_≡_}
 use mathlib.Core.Bool.{true}
-use mathlib.Core.List.{List, [], _∷_}
+use mathlib.Core.List.{List}
 use lib.IntN.{pos}
 use lib.Signed.{leZ}
 use Rattle.paper.specs.Outcome.{given}
+use Rattle.paper.specs.Lists.{Every}
 use Rattle.bit_fields.specs.Bits.{Field}
 use Rattle.bond.specs.Notes.{noteChecks}
 use Rattle.bond.specs.declared.Note.{Note}
@@ -17,10 +18,12 @@ use Rattle.packed_raw.specs.Fields.{numberFields, dateFields, couponFiel
 abbrev pub Packable : Note → Type 0
 Packable n = (leZ (n .period .num) (pos 4095) ≡ true) × (noteChecks true true n ≡ given n)
 
--- every number fits its bits
+-- a number fits its bits, and every one does
+abbrev pub Fits : Field → Type 0
+Fits f = f .number < 2 ^ f .width
+
 abbrev pub AllFit : List Field → Type 0
-AllFit [] = 0 < 1
-AllFit (f ∷ fs) = (f .number < 2 ^ f .width) × AllFit fs
+AllFit fs = Every Fits fs
 
 -- so do the numbers of a note
 pub record RawFits (r : Raw) : Type 0 where

@@ -59,10 +59,6 @@ pub found-later : (s : List ℕ) (at : ℕ) (fs gs : List Field) → Found s at 
 found-later s at [] gs h = subst (λ (p : ℕ). Found s p gs) (sym (add-zero at)) h
 found-later s at (f ∷ fs) gs h = subst (λ (p : ℕ). Found s p gs) (add-assoc at (f .width) (widths fs)) (found-later s (at + f .width) fs gs (h .1))
 
-pub all-fit : (fs gs : List Field) → AllFit fs → AllFit gs → AllFit (fs ++ gs)
-all-fit [] gs h k = k
-all-fit (f ∷ fs) gs h k = (h .0, all-fit fs gs (h .1) k)
-
 -- ---- the numbers of a note
 
 pub raw-found : (s : List ℕ) → Found s 0 (rawFields (rawOf s))

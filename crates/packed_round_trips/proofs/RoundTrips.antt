@@ -1,19 +1,19 @@
 -- Written and read: each gives back what the other took.
 -- Assumes nothing.
 use Prim.Native.Nat.{ℕ}
-use mathlib.Core.Path.{_≡_, refl, sym, ap, subst, _∙_}
+use mathlib.Core.Path.{_≡_, sym, ap, subst, _∙_}
 use mathlib.Core.List.{List}
 use lib.ListN.{take}
-use Rattle.paper.specs.Outcome.{Outcome, given, refused, andThen}
-use Rattle.paper.proofs.Outcomes.{given-injective, given-not-refused}
+use Rattle.paper.specs.Outcome.{given}
+use Rattle.paper.proofs.Outcomes.{given-injective, then-given}
 use Rattle.bit_fields.specs.Bits.{AreBytes}
 use Rattle.bond.specs.declared.Note.{Note}
 use Rattle.packed.specs.Tables.{Unpacked, unpacked}
 use Rattle.packed_raw.specs.Fields.{rawWith}
-use Rattle.text.specs.Writing.{writtenLength}
+use Rattle.text.specs.Writing.{writtenLength, shownBytes}
 use Rattle.text.specs.declared.LengthAnswer.the-variants.{Length}
 use Rattle.text.proofs.Writers.{written-text}
-use Rattle.packed_write.specs.Writing.{packedNote, bytesAfter, WritePromise}
+use Rattle.packed_write.specs.Writing.{packedNote, WritePromise}
 use Rattle.packed_round_trips.specs.RoundTrips.{InMachine, RoundTrips}
 use Rattle.packed_round_trips.proofs.Written.{was-packed, raw-bytes, reads-back}
 use Rattle.packed_round_trips.proofs.Read.{writes-back}
@@ -24,15 +24,10 @@ written-bytes n table s e = subst AreBytes (was-packed n table s e .bytes) (raw-
 written-reads : (n : Note) (table s : List ℕ) → InMachine n → packedNote n table ≡ given s → unpacked s ≡ given (record { note = n; days = table })
 written-reads n table s m e = let p = was-packed n table s e in ap unpacked (sym (p .bytes)) ∙ reads-back n table (p .note) (p .table-taken) m
 
--- what the promise says of the bytes: the record was written
-length-given : (o : Outcome (List ℕ)) (old : List ℕ) (k : ℕ) → given k ≡ andThen o (writtenLength old) → (s : List ℕ) × (o ≡ given s) × (given k ≡ writtenLength old s)
-length-given (given s) old k e = (s, refl, e)
-length-given (refused n) old k e = absurd (given-not-refused e)
-
 lent-reads : (n : Note) (table old new : List ℕ) (k : ℕ) → InMachine n → WritePromise n table old new (Length k) → unpacked (take k new) ≡ given (record { note = n; days = table })
 lent-reads n table old new k m p =
-    let w = length-given (packedNote n table) old k (p .answer) in
-    let text : take k new ≡ w .0 = written-text old new (w .0) k (w .2, p .bytes ∙ ap (bytesAfter old) (w .1)) in
+    let w = then-given (packedNote n table) (writtenLength old) k (sym (p .0)) in
+    let text : take k new ≡ w .0 = written-text old new (w .0) k (sym (w .2), p .1 ∙ ap (shownBytes old) (w .1)) in
     ap unpacked text ∙ written-reads n table (w .0) m (w .1)
 
 one-note : (n m : Note) (table days s : List ℕ) → InMachine n → InMachine m → packedNote n table ≡ given s → packedNote m days ≡ given s → (n ≡ m) × (table ≡ days)

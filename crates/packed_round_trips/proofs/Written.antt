@@ -12,6 +12,7 @@ use lib.IntN.{pos}
 use lib.Signed.{leZ}
 use lib.Pow.{pow-pos}
 use Rattle.paper.specs.Outcome.{given, andThen, both}
+use Rattle.paper.proofs.Lists.{every-append}
 use Rattle.paper.proofs.Outcomes.{given-injective, both-true, unless-given, then-given}
 use Rattle.bit_fields.specs.Bits.{inBits, fieldBits, fieldsBits, bitsOf, field, AreBytes}
 use Rattle.bit_fields.proofs.Bits.{field-found}
@@ -26,24 +27,24 @@ use Rattle.packed_table.specs.Tables.{tableCount, daysFrom, tableDays, isWhole,
 use Rattle.packed_table.proofs.Tables.{exact}
 use Rattle.packed.specs.Tables.{noteInBytes, unpacked}
 use Rattle.packed_raw.specs.Fields.{numberFields, dateFields, couponFields, termsFields, lettersFields, rawWith}
-use Rattle.packed_raw.specs.Fits.{AllFit, RawFits, Packable}
+use Rattle.packed_raw.specs.Fits.{Fits, AllFit, RawFits, Packable}
 use Rattle.packed_raw.proofs.Accepted.{raw-fits}
 use Rattle.packed_write.specs.Fields.{headFields, middleFields, tailFields, rawFields, dayFields, tableFields, zerosBehind, rawBytes, recordBytes}
 use Rattle.packed_write.specs.Writing.{packedNote}
 use Rattle.packed_write.proofs.Fields.{fields-are, length-record, whole-bits, whole-bytes, bytes-length}
 use Rattle.packed_round_trips.specs.RoundTrips.{InMachine}
-use Rattle.packed_round_trips.proofs.Found.{Found, found-in, found-first, found-later, all-fit, raw-read, days-read}
+use Rattle.packed_round_trips.proofs.Found.{Found, found-in, found-first, found-later, raw-read, days-read}
 use Rattle.packed_round_trips.proofs.Notes.{note-read}
 
 -- ---- every number fits its bits
 
 raw-all : (r : Raw) → RawFits r → AllFit (rawFields r)
 raw-all r h =
-    all-fit (headFields r) (middleFields r ++ tailFields r)
-    (all-fit (numberFields r) (dateFields (r .issue) ++ dateFields (r .maturity)) (h .number) (all-fit (dateFields (r .issue)) (dateFields (r .maturity)) (h .issue) (h .maturity)))
-    (all-fit (middleFields r) (tailFields r)
-    (all-fit (couponFields (r .coupon)) (termsFields (r .terms) ++ (inBits 32 (r .denomination) ∷ [])) (h .coupon) (all-fit (termsFields (r .terms)) (inBits 32 (r .denomination) ∷ []) (h .terms) (h .denomination, omega arith)))
-    (h .rate, all-fit (lettersFields (r .letters)) (inBits 10 (r .spare) ∷ []) (h .letters) (h .spare, omega arith)))
+    every-append Fits (headFields r) (middleFields r ++ tailFields r)
+    (every-append Fits (numberFields r) (dateFields (r .issue) ++ dateFields (r .maturity)) (h .number) (every-append Fits (dateFields (r .issue)) (dateFields (r .maturity)) (h .issue) (h .maturity)))
+    (every-append Fits (middleFields r) (tailFields r)
+    (every-append Fits (couponFields (r .coupon)) (termsFields (r .terms) ++ (inBits 32 (r .denomination) ∷ [])) (h .coupon) (every-append Fits (termsFields (r .terms)) (inBits 32 (r .denomination) ∷ []) (h .terms) (h .denomination, omega arith)))
+    (h .rate, every-append Fits (lettersFields (r .letters)) (inBits 10 (r .spare) ∷ []) (h .letters) (h .spare, omega arith)))
 
 days-fit : (low : ℕ) (t : List ℕ) → ascendsFrom low t ≡ true → AllFit (dayFields t)
 unfolding dayFields ascendsFrom
@@ -101,7 +102,7 @@ module _ (r : Raw) (t : List ℕ) where
     all-found : Found (rawBytes r t) 0 (rawFields r ++ tableFields t)
     all-found =
         found-in (rawBytes r t) [] (fieldBits (zerosBehind (length (fieldsBits (rawFields r ++ tableFields t)))) 0) 0 (rawFields r ++ tableFields t) raw-bits refl
-        (all-fit (rawFields r) (tableFields t) (raw-all r f) (omega (arith, table-most t g), days-fit 1 t (table-ascends t g)))
+        (every-append Fits (rawFields r) (tableFields t) (raw-all r f) (omega (arith, table-most t g), days-fit 1 t (table-ascends t g)))
 
     pub same-raw : rawOf (rawBytes r t) ≡ r
     same-raw = raw-read (rawBytes r t) r (found-first (rawBytes r t) 0 (rawFields r) (tableFields t) all-found)

@@ -10,6 +10,7 @@ use Rattle.paper.specs.Outcome.{given, refused}
 use Rattle.text.specs.Writing.{Written, lengthOutcome}
 use Rattle.text.specs.declared.LengthAnswer.{LengthAnswer}
 use Rattle.text.specs.declared.LengthAnswer.the-variants as length-answer
+use Rattle.text.proofs.Shown.{writes-none}
 use Rattle.holidays.specs.Table.{isTable}
 use Rattle.bond.specs.Notes.{noteChecks}
 use Rattle.bond.specs.declared.Note.{Note}
@@ -21,12 +22,12 @@ use Rattle.packed_write.specs.Writing.{packedNote, WritePromise}
 module _ (n : Note) (table d : List ℕ) where
   pub period-refused : leZ (n .period .num) (pos 4095) ≡ false → WritePromise n table d d (length-answer.Refused 18)
   unfolding packedNote
-  period-refused h = record { answer = rw (h); bytes = rw (h) }
+  period-refused h = writes-none (packedNote n table) d 18 (rw (h))
 
   module _ (h : leZ (n .period .num) (pos 4095) ≡ true) where
     pub note-refused : (t : Bool) (k : ℕ) → t ≡ isTable table → noteChecks true t n ≡ refused k → WritePromise n table d d (length-answer.Refused k)
     unfolding packedNote
-    note-refused t k e f = record { answer = rw (h, ← e, f); bytes = rw (h, ← e, f) }
+    note-refused t k e f = writes-none (packedNote n table) d k (rw (h, ← e, f))
 
     -- the checks give the note that was judged
     pub note-packable : (t : Bool) (m : Note) → t ≡ isTable table → noteChecks true t n ≡ given m → (Packable n) × (isTable table ≡ true)
@@ -36,4 +37,4 @@ module _ (n : Note) (table d : List ℕ) where
 
     pub note-written : (e : List ℕ) (r : LengthAnswer) → (Packable n) × (isTable table ≡ true) → Written d e (recordBytes n table) (lengthOutcome r) → WritePromise n table d e r
     unfolding packedNote
-    note-written e r p w = record { answer = rw (h, p .1, p .0 .1) (w .0); bytes = rw (h, p .1, p .0 .1) (w .1) }
+    note-written e r p w = rw (h, p .1, p .0 .1) w

@@ -1,9 +1,9 @@
 -- Numbers as the code compares and shifts them: whole, signed and binary. Assumes nothing.
-use Prim.Native.Nat.{ℕ, zero, suc, _*_, _%_, _^_, _≤_, _<_}
+use Prim.Native.Nat.{ℕ, zero, suc, _+_, _-_, _*_, _/_, _%_, _^_, _≤_, _<_}
 use mathlib.Core.Path.{_≡_, refl, sym, ap, _∙_, subst}
 use mathlib.Core.Bool.{true, false, not}
 use mathlib.Core.Logic.{_⊎_, inl, inr, ⊎-elim}
-use native.Mathlib.Nat.{one-mul, mod-eq-of-lt}
+use native.Mathlib.Nat.{one-mul, mod-eq-of-lt, pow-suc, div-div-eq-div-mul}
 use native.Mathlib.Omega.{arith}
 use lib.Dec.{T, leb, ltb}
 use lib.Ieee.{Float, nan, inf, fin, ne, isNan}
@@ -13,7 +13,9 @@ use lib.Signed.{ltZ, leZ, mag}
 use mir.Syntax.{w32, w64}
 use mir.Val.{SFits, toZ, ofZ}
 use mir.Facts.{toZ-ofZ, sfits-widen}
-use borrow.Author.Tests.{not-true, lt-leb, le-leb, lt-ltb, le-ltb}
+use borrow.Author.Tests.{not-true, lt-leb, le-leb, leb-true, lt-ltb, le-ltb}
+use Rattle.paper.specs.Outcome.{both}
+use Rattle.paper.proofs.Outcomes.{both-true}
 
 pub lt-or-le : (a b : ℕ) → (a < b) ⊎ (b ≤ a)
 lt-or-le zero zero = inr (omega arith)
@@ -28,6 +30,17 @@ next-up k n h e = omega arith
 -- a power of two, as a shift gives it
 pub shifted-one : (p : ℕ) → p < 64 → 1 * 2 ^ p % 18446744073709551616 ≡ 2 ^ p
 shifted-one p h = rw (one-mul (2 ^ p)) (mod-eq-of-lt {m = 18446744073709551616} (pow-lt {j = 64} h))
+
+-- digits to any base: without the last of them, one fewer is cut off
+pub digits-apart : (b n m k : ℕ) → k < m → n / b ^ (m - (k + 1)) / b ≡ n / b ^ (m - k)
+digits-apart b n m k h =
+    let j : ℕ = m - (k + 1) in
+    let e : m - k ≡ suc j = omega arith in
+    div-div-eq-div-mul n (b ^ j) b ∙ rw (e) (ap (λ (x : ℕ). n / x) (sym (pow-suc b j)))
+
+-- a number between two others, as a test says it
+pub between : (a n b : ℕ) → both (leb a n) (leb n b) ≡ true → (a ≤ n) × (n ≤ b)
+between a n b e = let p = both-true (leb a n) (leb n b) e in (leb-true a n (p .0), leb-true n b (p .1))
 
 on-whole : (m n : ℕ) → leb n m ≡ not (ltb m n)
 on-whole m n = ⊎-elim (λ l. rw (lt-ltb m n l, lt-leb n m l)) (λ l. rw (le-ltb m n l, le-leb n m l)) (lt-or-le m n)

@@ -4,7 +4,7 @@ use Prim.Native.Nat.{ℕ, _<_}
 use mathlib.Core.Path.{_≡_, refl, sym, _∙_, ap}
 use mathlib.Core.Bool.{Bool, true, false}
 use native.Mathlib.Omega.{arith}
-use Rattle.paper.specs.Outcome.{Outcome, given, refused, number, value, unless, andThen, Given, Numbered, pick, both}
+use Rattle.paper.specs.Outcome.{Outcome, given, refused, number, value, unless, andThen, passedAs, Given, Numbered, pick, both}
 
 pub given-injective : {A : Type 0} {a b : A} → given a ≡ given b → a ≡ b
 given-injective e = cc
@@ -42,6 +42,10 @@ pub then-numbered : {A B : Type 0} (o : Outcome A) (f : A → Outcome B) → Num
 then-numbered (given a) f h k = k a
 then-numbered (refused n) f h k = h
 
+pub passed-numbered : {A B : Type 0} (form : A → B) (o : Outcome A) → Numbered o → Numbered (passedAs form o)
+passed-numbered form (given a) h = h
+passed-numbered form (refused n) h = h
+
 pub pick-numbered : {A : Type 0} (b : Bool) (o p : Outcome A) → Numbered o → Numbered p → Numbered (pick b o p)
 pick-numbered true o p h k = h
 pick-numbered false o p h k = k
@@ -55,6 +59,15 @@ unless-given false n o a e = let z : _≡_ {A = ℕ} 0 1 = cc in absurd (omega a
 pub then-given : {A B : Type 0} (o : Outcome A) (f : A → Outcome B) (b : B) → andThen o f ≡ given b → (a : A) × (o ≡ given a) × (f a ≡ given b)
 then-given (given a) f b e = (a, refl, e)
 then-given (refused n) f b e = absurd (given-not-refused (sym e))
+
+-- what passes in another form was given, or refused alike
+pub passed-given : {A B : Type 0} (form : A → B) (o : Outcome A) (b : B) → passedAs form o ≡ given b → (a : A) × (o ≡ given a) × (form a ≡ b)
+passed-given form (given a) b e = (a, refl, given-injective e)
+passed-given form (refused n) b e = absurd (given-not-refused (sym e))
+
+pub passed-refused : {A B : Type 0} (form : A → B) (o : Outcome A) (n : ℕ) → passedAs form o ≡ refused n → o ≡ refused n
+passed-refused form (given a) n e = absurd (given-not-refused e)
+passed-refused form (refused m) n e = ap refused (refused-injective e)
 
 pub both-true : (a b : Bool) → both a b ≡ true → (a ≡ true) × (b ≡ true)
 both-true true b e = (refl, e)

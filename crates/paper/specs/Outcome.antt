@@ -27,6 +27,10 @@ abbrev pub andThen : {A B : Type 0} → Outcome A → (A → Outcome B) → Outc
 andThen (given a) next = next a
 andThen (refused n) next = refused n
 
+-- a value that passes in another form
+abbrev pub passedAs : {A B : Type 0} → (A → B) → Outcome A → Outcome B
+passedAs form o = andThen o (λ a. given (form a))
+
 -- a value is given
 abbrev pub Given : {A : Type 0} → Outcome A → Type 0
 Given (given a) = 0 < 1

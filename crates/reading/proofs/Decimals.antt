@@ -10,7 +10,8 @@ use lib.IntN.{ℤ}
 use borrow.Author.Tests.{le-leb, lt-leb, leb-true, eq-eqb, ne-eqb}
 use Rattle.paper.specs.Outcome.{Outcome, given, refused, unless, Numbered}
 use Rattle.paper.proofs.Lists.{head-at}
-use Rattle.paper.proofs.Outcomes.{given-injective, unless-given, unless-numbered, then-numbered, pick-numbered, both-true}
+use Rattle.paper.proofs.Numbers.{between}
+use Rattle.paper.proofs.Outcomes.{given-injective, unless-given, unless-numbered, then-numbered, pick-numbered}
 use Rattle.reading.specs.Reading.{isDigit, allDigits, isDecimal, continued, decimalValue, decimalNumber, begins, afterPlus, unsignedNumber, belowZero, fromZero, signedNumber}
 
 -- ---- one byte
@@ -29,7 +30,7 @@ digit-high b h = rw (le-leb 48 b (omega arith), lt-leb b 57 h)
 
 pub digit-bounds : (b : ℕ) → isDigit b ≡ true → (48 ≤ b) × (b ≤ 57)
 unfolding isDigit
-digit-bounds b e = let p = both-true (leb 48 b) (leb b 57) e in (leb-true 48 b (p .0), leb-true b 57 (p .1))
+digit-bounds b e = between 48 b 57 e
 
 -- ---- what comes out where the number v is read and the text s is left
 

@@ -9,7 +9,7 @@ use lib.Seq.{drop-length}
 use lib.Ieee.{Float}
 use denote.Laws.{Is}
 use denote.Struct.Laws as LL
-use Rattle.paper.specs.Outcome.{Outcome, given, refused}
+use Rattle.paper.specs.Outcome.{Outcome, given, refused, value}
 use Rattle.paper.proofs.Outcomes.{then-given}
 use Rattle.room.specs.Room.{fitting, counted, roomAfter}
 use Rattle.room.proofs.Fitting.{fitting-given}
@@ -30,7 +30,6 @@ use Rattle.coupon_dues.specs.declared.Due.the-variants.{First}
 use Rattle.note_flows.proofs.Collecting.{flowsOf}
 use Rattle.rollout_records.specs.Records.{recordsFitted, RecordsPromise}
 use Rattle.kept_flows.specs.Steps.{KeptAll, Coming, Came}
-use Rattle.rollout_records.specs.Steps.{writtenOf}
 use Rattle.kept_flows.specs.declared.Paid.{Paid}
 use Rattle.kept_flows.proofs.Paid as P
 use Rattle.kept_flows.proofs.Paid.Laws as P′
@@ -119,7 +118,7 @@ module _ (n : Note) (position : Float) (table : List ℕ) (old : List CashFlow) 
         next = λ f _. rolling-next f;
       }
 
-  written-is : (o : Outcome (List CashFlow)) → writtenOf (counted o) ≡ length (flowsOf o)
+  written-is : (o : Outcome (List CashFlow)) → value 0 (counted o) ≡ length (flowsOf o)
   written-is (given l) = refl
   written-is (refused k) = refl
 
@@ -133,8 +132,8 @@ module _ (n : Note) (position : Float) (table : List ℕ) (old : List CashFlow) 
     promised = answers
 
     -- as many as the answer says
-    pub so-many : (m : ℕ) → m ≡ writtenOf (flowsOutcome r) → m ≡ length (toWrite n position table old)
-    so-many m e = e ∙ ap writtenOf promised ∙ written-is (recordsFitted n position table (length old))
+    pub so-many : (m : ℕ) → m ≡ value 0 (flowsOutcome r) → m ≡ length (toWrite n position table old)
+    so-many m e = e ∙ ap (value 0) promised ∙ written-is (recordsFitted n position table (length old))
 
     pub rolled : (t : Rolling n position table old) → length (toWrite n position table old) ≤ t .k → RecordsPromise n position table old r (t .out)
     rolled t h =

@@ -1,9 +1,9 @@
 // Rollout of a note into records: judged and counted first, and written only where all of them are given and fit.
 ghost use mathlib.Core.Path.{_≡_};
+ghost use Rattle.paper.specs.Outcome.{value};
 ghost use Rattle.cash_flow.specs.Flows.{flowsOutcome};
 ghost use Rattle.coupon_dues.specs.declared.Due.the-variants.{First};
 ghost use Rattle.rollout_records.specs.Records.{RecordsPromise};
-ghost use Rattle.rollout_records.specs.Steps.{writtenOf};
 use bond::Note;
 use cash_flow::CashFlow;
 use cash_flow::FlowsAnswer;
@@ -12,7 +12,7 @@ use kept_flows::Paid;
 
 // How many records are to be written: none where all is refused.
 fn written(answer: FlowsAnswer) -> usize
-    ensures { λ r. ⌜ r ≡ writtenOf (flowsOutcome answer) ⌝ }
+    ensures { λ r. ⌜ r ≡ value 0 (flowsOutcome answer) ⌝ }
 {
     match answer {
         FlowsAnswer::Flows(n) => n,

@@ -1,13 +1,13 @@
 -- A count and the places for it: what fits is all there is, and what does not is 16. Over any kind of element. Assumes nothing.
 use Prim.Native.Nat.{ℕ, _≤_, _<_}
-use mathlib.Core.Path.{_≡_, refl, sym, ap, subst}
+use mathlib.Core.Path.{_≡_, refl, sym, subst}
 use mathlib.Core.List.{List}
 use native.Mathlib.Omega.{arith}
 use lib.Dec.{leb}
 use lib.ListN.{length}
 use borrow.Author.Tests.{le-leb, lt-leb, leb-true}
 use Rattle.paper.specs.Outcome.{Outcome, given, refused, Numbered}
-use Rattle.paper.proofs.Outcomes.{given-injective, given-not-refused, unless-given, unless-numbered}
+use Rattle.paper.proofs.Outcomes.{given-injective, given-not-refused, unless-given, unless-numbered, passed-refused}
 use Rattle.room.specs.Room.{fitting, counted}
 
 module _ {A : Type 0} where
@@ -21,8 +21,7 @@ module _ {A : Type 0} where
   short (refused j) m places c h = absurd (given-not-refused (sym c))
 
   pub stopped : (o : Outcome (List A)) (j places : ℕ) → counted o ≡ refused j → fitting places o ≡ refused j
-  stopped (given l) j places c = absurd (given-not-refused c)
-  stopped (refused k) j places c = let q : k ≡ j = cc in ap refused q
+  stopped o j places c = rw (passed-refused length o j c)
 
   -- what was given was all there is, and it fits
   pub fitting-given : (places : ℕ) (o : Outcome (List A)) (l : List A) → fitting places o ≡ given l → (o ≡ given l) × (length l ≤ places)
@@ -32,10 +31,6 @@ module _ {A : Type 0} where
   fitting-given places (refused k) l e = absurd (given-not-refused (sym e))
 
   -- a refusal keeps a number that is not 0
-  pub counted-numbered : (o : Outcome (List A)) → Numbered o → Numbered (counted o)
-  counted-numbered (given l) h = h
-  counted-numbered (refused n) h = h
-
   pub fitting-numbered : (places : ℕ) (o : Outcome (List A)) → Numbered o → Numbered (fitting places o)
   fitting-numbered places (given l) h = unless-numbered (leb (length l) places) 16 (given l) (omega arith) h
   fitting-numbered places (refused n) h = h

@@ -4,7 +4,7 @@ use Prim.Native.Nat.{ℕ}
 use mathlib.Core.List.{List, _++_, map}
 use lib.Dec.{leb}
 use lib.ListN.{length, drop}
-use Rattle.paper.specs.Outcome.{Outcome, given, refused, unless}
+use Rattle.paper.specs.Outcome.{Outcome, given, refused, unless, passedAs}
 
 -- fewer places than there is to write: 16
 abbrev pub fitting : {A : Type 0} → ℕ → Outcome (List A) → Outcome (List A)
@@ -13,8 +13,7 @@ fitting places (refused n) = refused n
 
 -- how many were written
 abbrev pub counted : {A : Type 0} → Outcome (List A) → Outcome ℕ
-counted (given new) = given (length new)
-counted (refused n) = refused n
+counted o = passedAs length o
 
 -- the room afterwards: the new in front of the old, and all the old where it was refused
 abbrev pub roomAfter : {A B : Type 0} → (A → B) → Outcome (List A) → List B → List B

@@ -7,6 +7,12 @@ use lib.Dec.{T}
 use lib.Ieee.{Float, nan, inf, fin, up, down}
 use lib.Ieee.Scale.{finite}
 
+-- the sign bit, which a zero has too
+abbrev pub signBit : Float → Bool
+signBit nan = false
+signBit (inf s) = s
+signBit (fin s m e) = s
+
 -- m with its sign: negative where the first is true
 abbrev pub signed : Bool → ℕ → ℤ
 signed false m = pos m

@@ -1,4 +1,5 @@
 pub mod Putting
 pub mod Writers
+pub mod Shown
 pub mod OneOutcome
 pub mod Examples

@@ -6,7 +6,7 @@ use Rattle.paper.specs.Outcome.{Outcome}
 use Rattle.paper.proofs.Outcomes.{given-injective, refused-injective, given-not-refused}
 use Rattle.text.specs.declared.LengthAnswer.{LengthAnswer}
 use Rattle.text.specs.declared.LengthAnswer.the-variants as length
-use Rattle.text.specs.Writing.{Wrote, Written, lengthOutcome}
+use Rattle.text.specs.Writing.{Wrote, Written, lengthOutcome, Writes, Takes}
 
 pub same-length : (r t : LengthAnswer) → lengthOutcome r ≡ lengthOutcome t → r ≡ t
 same-length (length.Length v) (length.Length w) e = ap length.Length (given-injective e)
@@ -21,6 +21,13 @@ one-written d e f xs o p v w = (v .0 ∙ sym (w .0), v .1 ∙ sym (w .1))
 
 pub one-write : (d e f xs : List ℕ) (r t : LengthAnswer) → Written d e xs (lengthOutcome r) → Written d f xs (lengthOutcome t) → (r ≡ t) × (e ≡ f)
 one-write d e f xs r t v w = (same-length r t (v .0 ∙ sym (w .0)), v .1 ∙ sym (w .1))
+
+-- and of a text that may be refused
+pub one-writes : (o : Outcome (List ℕ)) (d e f : List ℕ) (r s : LengthAnswer) → Writes o d e r → Writes o d f s → (r ≡ s) × (e ≡ f)
+one-writes o d e f r s p q = (same-length r s (p .0 ∙ sym (q .0)), p .1 ∙ sym (q .1))
+
+pub one-takes : (o : Outcome (List ℕ)) (r s : LengthAnswer) → Takes o r → Takes o s → r ≡ s
+one-takes o r s p q = same-length r s (p ∙ sym q)
 
 pub one-wrote : (d e f : List ℕ) (at : ℕ) (xs : List ℕ) (r t : ℕ) → Wrote d e at xs r → Wrote d f at xs t → (e ≡ f) × (r ≡ t)
 one-wrote d e f at xs r t v w = (v .0 ∙ sym (w .0), v .1 ∙ sym (w .1))

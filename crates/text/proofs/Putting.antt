@@ -107,15 +107,6 @@ bytes-less o at (suc i) s z e l m h =
     rw (k) (last-less o at i i (getD s i 0) (take i s) z (ap (put o at) (sym (take-suc s i 0 (omega arith))) ∙ e) (length-take-le i s (omega arith)) refl (omega arith))
 
 -- where nothing is left to write, all is written
-pub digits-end : (o : List ℕ) (at i n : ℕ) (z : List ℕ) → put o at (digits i n) ≡ z → i ≤ 0 → o ≡ z
-unfolding digits
-digits-end o at zero n z e h = sym (put-none o at) ∙ e
-digits-end o at (suc i) n z e h = absurd (omega arith)
-
-pub run-end : (o : List ℕ) (at i b : ℕ) (z : List ℕ) → put o at (replicate i b) ≡ z → i ≤ 0 → o ≡ z
-run-end o at zero b z e h = sym (put-none o at) ∙ e
-run-end o at (suc i) b z e h = absurd (omega arith)
-
-pub bytes-end : (o : List ℕ) (at i : ℕ) (s z : List ℕ) → put o at (take i s) ≡ z → i ≤ 0 → o ≡ z
-bytes-end o at zero s z e h = sym (put-none o at) ∙ e
-bytes-end o at (suc i) s z e h = absurd (omega arith)
+pub all-put : (o : List ℕ) (at : ℕ) (xs z : List ℕ) → put o at xs ≡ z → length xs ≤ 0 → o ≡ z
+all-put o at [] z e h = sym (put-none o at) ∙ e
+all-put o at (b ∷ xs) z e h = absurd (omega arith)

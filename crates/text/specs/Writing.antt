@@ -4,7 +4,7 @@ use mathlib.Core.Path.{_≡_}
 use mathlib.Core.List.{List, _++_}
 use lib.Dec.{leb}
 use lib.ListN.{length, take, drop, replicate}
-use Rattle.paper.specs.Outcome.{Outcome, given, refused, unless, pick}
+use Rattle.paper.specs.Outcome.{Outcome, given, refused, unless, andThen, passedAs, pick}
 unfoldable pub use Rattle.text_lengths.specs.NumberTexts.{digits, placesWithin, places, decimalText, paddedText, signedText}
 pub use Rattle.text_lengths.specs.NumberTexts.{isNegative, signText, TakesSigned}
 use Rattle.text.specs.declared.LengthAnswer.{LengthAnswer}
@@ -38,3 +38,16 @@ Written d e xs r = (r ≡ writtenLength d xs) × (e ≡ writtenBytes d xs)
 abbrev pub lengthOutcome : LengthAnswer → Outcome ℕ
 lengthOutcome (Length k) = given k
 lengthOutcome (Refused n) = refused n
+
+-- a text that may be refused: the bytes d once it is written at their start, all the old ones where it was refused
+abbrev pub shownBytes : List ℕ → Outcome (List ℕ) → List ℕ
+shownBytes d (given xs) = writtenBytes d xs
+shownBytes d (refused n) = d
+
+-- what its writer promises of the old bytes d, the new bytes e and its answer r: its refusal, then 16, then the text's length
+abbrev pub Writes : Outcome (List ℕ) → List ℕ → List ℕ → LengthAnswer → Type 0
+Writes o d e r = (lengthOutcome r ≡ andThen o (writtenLength d)) × (e ≡ shownBytes d o)
+
+-- and how many bytes it takes
+abbrev pub Takes : Outcome (List ℕ) → LengthAnswer → Type 0
+Takes o r = lengthOutcome r ≡ passedAs length o

@@ -3,11 +3,13 @@
 use mathlib.Core.Path.{sym, ap, _∙_}
 use native.Mathlib.Omega.{arith}
 use borrow.Author.Needs.{needs}
+use lib.ListN.{length}
+use Rattle.paper.proofs.Outcomes.{passed-given, passed-refused}
 use Rattle.text.specs.Writing.{lengthOutcome}
 use Rattle.text.proofs.Writers.{wrote-is}
 use Rattle.amount_text.specs.AmountTexts.{amountShown}
-use Rattle.date_text.proofs.Dates.{writes-all, writes-short, writes-none}
-use Rattle.amount_text.proofs.Answers.{takes-given, takes-refused, amount-was}
+use Rattle.text.proofs.Shown.{writes-all, writes-short, writes-none}
+use Rattle.amount_text.proofs.Answers.{amount-was}
 use Rattle.amount_text.proofs.write_amount.Statement.{statement}
 use Rattle.amount_text.proofs.write_amount.Tie as tie
 
@@ -20,13 +22,13 @@ enum-known-k c = search needs
 returns : tie.Need-returns
 returns c =
     let start : tie.Start = c .before .before .before .before .before .before in
-    let p = takes-given (amountShown (start .args .x) (start .args .currency)) _ (ap lengthOutcome (sym (c .before .before .k .given .1)) ∙ c .before .before .before .before .amount-length .ensures) in
+    let p = passed-given length (amountShown (start .args .x) (start .args .currency)) _ (sym (ap lengthOutcome (sym (c .before .before .k .given .1)) ∙ c .before .before .before .before .amount-length .ensures)) in
     writes-short (amountShown (start .args .x) (start .args .currency)) (start .args .out .now) (p .0) (p .1) (omega (arith, p .2, c .if1 .taken))
 
 put-amount-at-requires : tie.Need-put-amount-at-requires
 put-amount-at-requires c κs =
     let start : tie.Start = c .before .before .before .before .before .before .before in
-    let p = takes-given (amountShown (start .args .x) (start .args .currency)) _ (ap lengthOutcome (sym (c .before .before .before .k .given .1)) ∙ c .before .before .before .before .before .amount-length .ensures) in
+    let p = passed-given length (amountShown (start .args .x) (start .args .currency)) _ (sym (ap lengthOutcome (sym (c .before .before .before .k .given .1)) ∙ c .before .before .before .before .before .amount-length .ensures)) in
     let was = amount-was (start .args .x) (start .args .currency) (p .0) (p .1) in
     (was .0, rw (was .2) (omega (arith, p .2, c .before .if1 .left)))
 
@@ -39,14 +41,14 @@ same-length c = search needs
 returns-2 : tie.Need-returns-2
 returns-2 c =
     let start : tie.Start = c .before .before .before .before .before .before .before .before .before .before in
-    let p = takes-given (amountShown (start .args .x) (start .args .currency)) _ (ap lengthOutcome (sym (c .before .before .before .before .before .before .k .given .1)) ∙ c .before .before .before .before .before .before .before .before .amount-length .ensures) in
+    let p = passed-given length (amountShown (start .args .x) (start .args .currency)) _ (sym (ap lengthOutcome (sym (c .before .before .before .before .before .before .k .given .1)) ∙ c .before .before .before .before .before .before .before .before .amount-length .ensures)) in
     let was = amount-was (start .args .x) (start .args .currency) (p .0) (p .1) in
     writes-all (amountShown (start .args .x) (start .args .currency)) (start .args .out .now) (p .0) _ _ (p .1) (wrote-is _ _ _ _ _ _ (c .before .before .put-amount-at .ensures) (was .2)) (omega (arith, p .2, c .before .before .before .before .if1 .left))
 
 returns-3 : tie.Need-returns-3
 returns-3 c =
     let start : tie.Start = c .before .before .before .before .before in
-    writes-none (amountShown (start .args .x) (start .args .currency)) (start .args .out .now) _ (takes-refused (amountShown (start .args .x) (start .args .currency)) _ (ap lengthOutcome (sym (c .before .n .given .1)) ∙ c .before .before .before .amount-length .ensures))
+    writes-none (amountShown (start .args .x) (start .args .currency)) (start .args .out .now) _ (passed-refused length (amountShown (start .args .x) (start .args .currency)) _ (sym (ap lengthOutcome (sym (c .before .n .given .1)) ∙ c .before .before .before .amount-length .ensures)))
 
 pub write-amount-spec : {M : Type 1} → statement M
 write-amount-spec =

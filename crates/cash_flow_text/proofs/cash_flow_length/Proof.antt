@@ -10,8 +10,9 @@ use Rattle.amount_text.specs.AmountTexts.{amountShown}
 use native.Mathlib.Omega.{arith}
 use borrow.Author.Tests.{not-true, not-false}
 use borrow.Author.Needs.{needs}
+use Rattle.paper.proofs.Outcomes.{passed-given}
 use Rattle.text.specs.Writing.{lengthOutcome}
-use Rattle.amount_text.proofs.Answers.{takes-given, amount-was}
+use Rattle.amount_text.proofs.Answers.{amount-was}
 use Rattle.amount_text.proofs.Lengths.{amount-long, decimal-long}
 use Rattle.cash_flow_text.proofs.Answers.{flow-given, flow-no-date, flow-refused}
 use Rattle.cash_flow_text.proofs.cash_flow_length.Statement.{statement}
@@ -37,7 +38,7 @@ add-t8 c = search needs
 add-t9 : tie.Need-add-t9
 add-t9 c =
     let start : tie.Start = c .before .before .before .before .before .before in
-    let p = takes-given (amountShown (start .args .flow .amount) (start .args .flow .currency)) _ (ap lengthOutcome (sym (c .before .before .before .k .given .1)) ∙ c .before .before .before .before .before .amount-length .ensures) in
+    let p = passed-given length (amountShown (start .args .flow .amount) (start .args .flow .currency)) _ (sym (ap lengthOutcome (sym (c .before .before .before .k .given .1)) ∙ c .before .before .before .before .before .amount-length .ensures)) in
     let was = amount-was (start .args .flow .amount) (start .args .flow .currency) (p .0) (p .1) in
     let fit = LL.owed T.the-type T′.the-laws (start .args .flow) _ (start .good .0) .1 .1 .0 .1 in
     omega (arith, p .2, ap length (was .2), amount-long (start .args .flow .amount) (start .args .flow .currency), decimal-long (start .args .flow .amount) (subst T (sym fit) tt) (was .0))

@@ -3,11 +3,12 @@
 use mathlib.Core.Path.{sym, ap, _∙_}
 use native.Mathlib.Omega.{arith}
 use borrow.Author.Needs.{needs}
+use lib.ListN.{length}
+use Rattle.paper.proofs.Outcomes.{passed-given, passed-refused}
 use Rattle.text.specs.Writing.{lengthOutcome}
 use Rattle.text.proofs.Writers.{wrote-is}
 use Rattle.cash_flow_text.specs.Texts.{flowShown}
-use Rattle.date_text.proofs.Dates.{writes-all, writes-short, writes-none}
-use Rattle.amount_text.proofs.Answers.{takes-given, takes-refused}
+use Rattle.text.proofs.Shown.{writes-all, writes-short, writes-none}
 use Rattle.cash_flow_text.proofs.Answers.{flow-was}
 use Rattle.cash_flow_text.proofs.write_cash_flow.Statement.{statement}
 use Rattle.cash_flow_text.proofs.write_cash_flow.Tie as tie
@@ -21,13 +22,13 @@ enum-known-k c = search needs
 returns : tie.Need-returns
 returns c =
     let start : tie.Start = c .before .before .before .before .before .before in
-    let p = takes-given (flowShown (start .args .flow)) _ (ap lengthOutcome (sym (c .before .before .k .given .1)) ∙ c .before .before .before .before .cash-flow-length .ensures) in
+    let p = passed-given length (flowShown (start .args .flow)) _ (sym (ap lengthOutcome (sym (c .before .before .k .given .1)) ∙ c .before .before .before .before .cash-flow-length .ensures)) in
     writes-short (flowShown (start .args .flow)) (start .args .out .now) (p .0) (p .1) (omega (arith, p .2, c .if1 .taken))
 
 put-cash-flow-at-requires : tie.Need-put-cash-flow-at-requires
 put-cash-flow-at-requires c κs =
     let start : tie.Start = c .before .before .before .before .before .before .before in
-    let p = takes-given (flowShown (start .args .flow)) _ (ap lengthOutcome (sym (c .before .before .before .k .given .1)) ∙ c .before .before .before .before .before .cash-flow-length .ensures) in
+    let p = passed-given length (flowShown (start .args .flow)) _ (sym (ap lengthOutcome (sym (c .before .before .before .k .given .1)) ∙ c .before .before .before .before .before .cash-flow-length .ensures)) in
     let was = flow-was (start .args .flow) (p .0) (p .1) in
     ((was .0, was .1), rw (was .2) (omega (arith, p .2, c .before .if1 .left)))
 
@@ -40,14 +41,14 @@ same-length c = search needs
 returns-2 : tie.Need-returns-2
 returns-2 c =
     let start : tie.Start = c .before .before .before .before .before .before .before .before .before .before in
-    let p = takes-given (flowShown (start .args .flow)) _ (ap lengthOutcome (sym (c .before .before .before .before .before .before .k .given .1)) ∙ c .before .before .before .before .before .before .before .before .cash-flow-length .ensures) in
+    let p = passed-given length (flowShown (start .args .flow)) _ (sym (ap lengthOutcome (sym (c .before .before .before .before .before .before .k .given .1)) ∙ c .before .before .before .before .before .before .before .before .cash-flow-length .ensures)) in
     let was = flow-was (start .args .flow) (p .0) (p .1) in
     writes-all (flowShown (start .args .flow)) (start .args .out .now) (p .0) _ _ (p .1) (wrote-is _ _ _ _ _ _ (c .before .before .put-cash-flow-at .ensures) (was .2)) (omega (arith, p .2, c .before .before .before .before .if1 .left))
 
 returns-3 : tie.Need-returns-3
 returns-3 c =
     let start : tie.Start = c .before .before .before .before .before in
-    writes-none (flowShown (start .args .flow)) (start .args .out .now) _ (takes-refused (flowShown (start .args .flow)) _ (ap lengthOutcome (sym (c .before .n .given .1)) ∙ c .before .before .before .cash-flow-length .ensures))
+    writes-none (flowShown (start .args .flow)) (start .args .out .now) _ (passed-refused length (flowShown (start .args .flow)) _ (sym (ap lengthOutcome (sym (c .before .n .given .1)) ∙ c .before .before .before .cash-flow-length .ensures)))
 
 pub write-cash-flow-spec : {M : Type 1} → statement M
 write-cash-flow-spec =

@@ -5,8 +5,8 @@ use native.Mathlib.Omega.{arith}
 use borrow.Author.Tests.{not-true, not-false}
 use borrow.Author.Needs.{needs}
 use Rattle.date_text.specs.DateTexts.{dateShown, dateText}
-use Rattle.date_text.proofs.Dates.{writes-all, writes-short, writes-none, date-given, date-refused}
-use Rattle.date_text.proofs.Dates.{date-long}
+use Rattle.text.proofs.Shown.{writes-all, writes-short, writes-none}
+use Rattle.date_text.proofs.Dates.{date-given, date-refused, date-long}
 use Rattle.date_text.proofs.write_date.Statement.{statement}
 use Rattle.date_text.proofs.write_date.Tie as tie
 

@@ -13,7 +13,7 @@ use Rattle.gregorian.proofs.Months.{year-most, year-length}
 use Rattle.calendar.proofs.Dates.{date-yes, within-year}
 use Rattle.day_fraction.specs.Fractions.{over, sinceJanuary}
 use Rattle.day_fraction.proofs.Spans.{since-is}
-use Rattle.day_fraction.proofs.Written.{over-365, over-366}
+use Rattle.day_fraction.proofs.Written.{over-by, lit365, lit366}
 use Rattle.day_fraction.proofs.gone.Statement.{statement}
 use Rattle.day_fraction.proofs.gone.Tie as tie
 
@@ -48,13 +48,13 @@ returns : tie.Need-returns
 returns c =
     let s : tie.Start = c .before .before .before .before .before in
     let t = s .args .t in
-    over-366 (ap pos (since t _ (s .pre) (c .before .before .before .before .days-before-month .ensures))) ∙ ap (over (pos (sinceJanuary t))) (year-length (t .year) (date-yes t (s .pre) .year-from) (sym (c .before .before .is-leap .ensures) ∙ c .before .if1 .taken))
+    over-by 366 lit366 (ap pos (since t _ (s .pre) (c .before .before .before .before .days-before-month .ensures))) ∙ ap (over (pos (sinceJanuary t))) (year-length (t .year) (date-yes t (s .pre) .year-from) (sym (c .before .before .is-leap .ensures) ∙ c .before .if1 .taken))
 
 returns-2 : tie.Need-returns-2
 returns-2 c =
     let s : tie.Start = c .before .before .before .before .before in
     let t = s .args .t in
-    over-365 (ap pos (since t _ (s .pre) (c .before .before .before .before .days-before-month .ensures))) ∙ ap (over (pos (sinceJanuary t))) (year-length (t .year) (date-yes t (s .pre) .year-from) (sym (c .before .before .is-leap .ensures) ∙ c .before .if1 .left))
+    over-by 365 lit365 (ap pos (since t _ (s .pre) (c .before .before .before .before .days-before-month .ensures))) ∙ ap (over (pos (sinceJanuary t))) (year-length (t .year) (date-yes t (s .pre) .year-from) (sym (c .before .before .is-leap .ensures) ∙ c .before .if1 .left))
 
 pub gone-spec : {M : Type 1} → statement M
 gone-spec =

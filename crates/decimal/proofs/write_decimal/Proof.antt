@@ -3,8 +3,12 @@
 use mathlib.Core.Path.{sym, ap, _∙_}
 use native.Mathlib.Omega.{arith}
 use borrow.Author.Needs.{needs}
+use lib.ListN.{length}
+use Rattle.paper.proofs.Outcomes.{passed-refused}
 use Rattle.text.specs.Writing.{lengthOutcome}
-use Rattle.decimal.proofs.Answers.{given-finite, refused-infinite, writes-all, writes-short, writes-none}
+use Rattle.text.proofs.Shown.{writes-all, writes-short, writes-none}
+use Rattle.decimal.specs.Decimal.{decimalText16, decimalShown}
+use Rattle.decimal.proofs.Answers.{decimal-given, given-finite}
 use Rattle.decimal.proofs.write_decimal.Statement.{statement}
 use Rattle.decimal.proofs.write_decimal.Tie as tie
 
@@ -18,7 +22,7 @@ returns : tie.Need-returns
 returns c =
     let start : tie.Start = c .before .before .before .before .before .before in
     let p = given-finite (start .args .x) _ (ap lengthOutcome (sym (c .before .before .k .given .1)) ∙ c .before .before .before .before .decimal-length .ensures) in
-    writes-short (start .args .x) (start .args .out .now) (p .0) (omega (arith, p .1, c .if1 .taken))
+    writes-short (decimalShown (start .args .x)) (start .args .out .now) (decimalText16 (start .args .x)) (decimal-given (start .args .x) (p .0)) (omega (arith, p .1, c .if1 .taken))
 
 put-decimal-at-requires : tie.Need-put-decimal-at-requires
 put-decimal-at-requires c κs =
@@ -36,12 +40,12 @@ returns-2 : tie.Need-returns-2
 returns-2 c =
     let start : tie.Start = c .before .before .before .before .before .before .before .before .before .before in
     let p = given-finite (start .args .x) _ (ap lengthOutcome (sym (c .before .before .before .before .before .before .k .given .1)) ∙ c .before .before .before .before .before .before .before .before .decimal-length .ensures) in
-    writes-all (start .args .x) (start .args .out .now) _ _ (p .0) (c .before .before .put-decimal-at .ensures) (omega (arith, p .1, c .before .before .before .before .if1 .left))
+    writes-all (decimalShown (start .args .x)) (start .args .out .now) (decimalText16 (start .args .x)) _ _ (decimal-given (start .args .x) (p .0)) (c .before .before .put-decimal-at .ensures) (omega (arith, p .1, c .before .before .before .before .if1 .left))
 
 returns-3 : tie.Need-returns-3
 returns-3 c =
     let start : tie.Start = c .before .before .before .before .before in
-    writes-none (start .args .x) (start .args .out .now) _ (refused-infinite (start .args .x) _ (ap lengthOutcome (sym (c .before .n .given .1)) ∙ c .before .before .before .decimal-length .ensures))
+    writes-none (decimalShown (start .args .x)) (start .args .out .now) _ (passed-refused length (decimalShown (start .args .x)) _ (sym (ap lengthOutcome (sym (c .before .n .given .1)) ∙ c .before .before .before .decimal-length .ensures)))
 
 pub write-decimal-spec : {M : Type 1} → statement M
 write-decimal-spec =

@@ -1,6 +1,8 @@
 -- `exports::notes_write_decimal` meets its contract: what the entry point answers, with the room that it wrote, is handed over.
 -- Assumes nothing.
-use Rattle.exports.proofs.Rooms.{decimal-handed}
+use Rattle.decimal.specs.Decimal.{decimalShown}
+use Rattle.exports.proofs.Rooms.{shown-handed}
+use denote.Ref.{now}
 use borrow.Author.Needs.{needs}
 use Rattle.exports.proofs.notes_write_decimal.Statement.{statement}
 use Rattle.exports.proofs.notes_write_decimal.Tie as tie
@@ -17,7 +19,8 @@ same-length c = search needs
 returns : tie.Need-returns
 returns c =
     let a = c .before .before .before .before in
-    decimal-handed _ _ _ _ _ _ (c .hand-length .ensures) _ (a .write-decimal .ensures .0) (a .write-decimal .ensures .1)
+    let s : tie.Start = a .before .before .before in
+    shown-handed (now (s .args .out)) _ _ _ _ _ (c .hand-length .ensures) (decimalShown (s .args .amount)) (a .write-decimal .ensures .0) (a .write-decimal .ensures .1)
 
 pub notes-write-decimal-spec : {M : Type 1} → statement M
 notes-write-decimal-spec =

@@ -2,7 +2,7 @@
 -- Assumes nothing.
 use mathlib.Core.Path.{refl}
 use Rattle.packed_write.specs.Writing.{packedNote}
-use Rattle.exports.proofs.Rooms.{packed-handed}
+use Rattle.exports.proofs.Rooms.{shown-handed}
 use mir.Facts.{toZ-ofZ}
 use denote.Ref.{now}
 use borrow.Author.Needs.{needs}
@@ -32,7 +32,7 @@ returns c =
     let a = c .before .before .before .before in
     let p = a .before .before .before .before .before in
     let s : tie.Start = p .before .before .before in
-    rw (← (rw (toZ-ofZ (p .before .before .before .fits .period-num)) at (p .note-of .ensures)), a .before .before .before .note .given .1) (packed-handed (now (s .args .out)) _ _ _ _ _ (c .hand-length .ensures) (packedNote (a .before .before .before .note .given .0 .0) (now (s .args .holidays))) (a .write-note .ensures .answer) (a .write-note .ensures .bytes))
+    rw (← (rw (toZ-ofZ (p .before .before .before .fits .period-num)) at (p .note-of .ensures)), a .before .before .before .note .given .1) (shown-handed (now (s .args .out)) _ _ _ _ _ (c .hand-length .ensures) (packedNote (a .before .before .before .note .given .0 .0) (now (s .args .holidays))) (a .write-note .ensures .0) (a .write-note .ensures .1))
 
 returns-2 : tie.Need-returns-2
 returns-2 c =

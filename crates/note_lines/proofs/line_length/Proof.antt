@@ -2,16 +2,16 @@
 -- Assumes nothing.
 use native.Mathlib.Omega.{arith}
 use lib.ListN.{length}
-use Rattle.paper.specs.Outcome.{given, andThen}
+use Rattle.paper.specs.Outcome.{passedAs}
 use Rattle.text.specs.declared.LengthAnswer.the-variants.{Length}
 use Rattle.cash_flow.specs.declared.CashFlow.{CashFlow}
 use Rattle.cash_flow_text.specs.Texts.{flowShown}
 use Rattle.note_lines.specs.Lines.{lineShown}
-use Rattle.note_lines.specs.Steps.{flowOn, Taken}
+use Rattle.note_lines.specs.Steps.{flowOn}
 use Prim.Native.Nat.{_+_, _≤_}
 use mathlib.Core.Path.{sym, ap, subst, _∙_}
 use lib.Dec.{T}
-use Rattle.text.specs.Writing.{lengthOutcome}
+use Rattle.text.specs.Writing.{lengthOutcome, Takes}
 use Rattle.note_lines.proofs.Lines.{line-takes, line-takes-none}
 use borrow.Author.Needs.{needs}
 use Rattle.note_lines.proofs.line_length.Statement.{statement}
@@ -30,12 +30,12 @@ enum-known-k : tie.Need-enum-known-k
 enum-known-k c = search needs
 
 -- what the flow takes
-takes : (c : tie.After-known-told) → (Taken (lineShown (flowOn (start c .args .currency) (start c .args .day) (start c .args .amount))) (Length (c .before .k .given .0 .0 + 1))) × (c .before .k .given .0 .0 + 1 ≤ 331)
+takes : (c : tie.After-known-told) → (Takes (lineShown (flowOn (start c .args .currency) (start c .args .day) (start c .args .amount))) (Length (c .before .k .given .0 .0 + 1))) × (c .before .k .given .0 .0 + 1 ≤ 331)
 takes c =
     let s = start c in
     let f : CashFlow = flowOn (s .args .currency) (s .args .day) (s .args .amount) in
     line-takes f (c .before .k .given .0 .0) (subst T (sym (s .good .1 .1 .0 .1)) tt)
-    (ap lengthOutcome (sym (c .before .k .given .1)) ∙ c .before .before .before .cash-flow-length .ensures ∙ ap (λ (g : CashFlow). andThen (flowShown g) (λ t. given (length t))) (c .before .before .before .before .flow-on .ensures))
+    (ap lengthOutcome (sym (c .before .k .given .1)) ∙ c .before .before .before .cash-flow-length .ensures ∙ ap (λ (g : CashFlow). passedAs length (flowShown g)) (c .before .before .before .before .flow-on .ensures))
 
 add-t9 : tie.Need-add-t9
 add-t9 c = omega (arith, takes c .1)
@@ -50,7 +50,7 @@ returns-2 : tie.Need-returns-2
 returns-2 c =
     let s : tie.Start = c .before .before .before .before .before in
     let f : CashFlow = flowOn (s .args .currency) (s .args .day) (s .args .amount) in
-    (line-takes-none f _ (ap lengthOutcome (sym (c .before .n .given .1)) ∙ c .before .before .before .cash-flow-length .ensures ∙ ap (λ (g : CashFlow). andThen (flowShown g) (λ t. given (length t))) (c .before .before .before .before .flow-on .ensures)), omega arith)
+    (line-takes-none f _ (ap lengthOutcome (sym (c .before .n .given .1)) ∙ c .before .before .before .cash-flow-length .ensures ∙ ap (λ (g : CashFlow). passedAs length (flowShown g)) (c .before .before .before .before .flow-on .ensures)), omega arith)
 
 pub line-length-spec : {M : Type 1} → statement M
 line-length-spec =

@@ -53,7 +53,7 @@ returns-2 : tie.Need-returns-2
 returns-2 c =
     let a = c .before .before .before .before .before .before .before .before .before .before .before .before .before .before .args in
     let p = note-packable (a .note) (now (a .table)) (now (a .out)) (within (c .before .before .before .before .before .before .before .before)) _ _ (c .before .before .before .before .before .before .before .is-table .ensures) (sym (c .before .before .before .before .before .before .check-note-with .ensures) ∙ ap noteOutcome (c .before .before .before .before .enum-told .given .1)) in
-    note-written (a .note) (now (a .table)) (now (a .out)) (within (c .before .before .before .before .before .before .before .before)) _ _ p (c .before .before .write-judged .ensures)
+    note-written (a .note) (now (a .table)) (now (a .out)) (within (c .before .before .before .before .before .before .before .before)) _ (c .before .before .write-judged .result) p (c .before .before .write-judged .ensures)
 
 returns-3 : tie.Need-returns-3
 returns-3 c =

@@ -55,6 +55,7 @@ use denote.Triple.Spec.{Meets, tripleOf}
 use denote.Triple.Table.{entered, cited}
 use denote.Triple.Walked.{says, Stays, stay-none-slice, stay-slice, stay-none, walkOf, Walks, ends-at, walked, goes-none-slice, goes-slice, goes-none, walk-meets}
 use denote.Exit.{yes}
+use Rattle.paper.specs.Outcome.{value}
 use Rattle.cash_flow.specs.Flows.{flowsOutcome}
 use Rattle.cash_flow.specs.declared.CashFlow.{CashFlow}
 use Rattle.cash_flow.specs.declared.FlowsAnswer.{FlowsAnswer}
@@ -64,7 +65,6 @@ use Rattle.coupon_dues.specs.declared.Due.the-variants.{First}
 use Rattle.rollout.specs.Rollout.{cashFlows}
 use Rattle.rollout_records.specs.Records.{RecordsPromise}
 use Rattle.kept_flows.specs.Steps.{KeptAll, Came}
-use Rattle.rollout_records.specs.Steps.{writtenOf}
 use Rattle.kept_flows.specs.declared.Paid.{Paid}
 use Rattle.room.proofs.Walks.{rest-of}
 use Rattle.rollout_records.proofs.Rolled.{toWrite, Rolling, enough-room, rolling-none, coming, k-inside, rolling-more, so-many, rolled}
@@ -340,8 +340,8 @@ module _ {M : Type 1} (𝓤 : URA M) (H : Heap 𝓤) (A : Atoms 𝓤) (W : Given
     asked-written : ent 𝓤 (onEntry 𝓤 H A written.signature tt tt (r, tt) (v ∷ [], tt)) (Written 𝓤 H A mem run .pre to-written)
     asked-written = qed W (‵ ftrue ∷ ‵ (owns (C.the-row ∷ []) (r, tt) (v ∷ [], tt)) ∷ []) ∵ join ! $ frame ! $ done !
 
-    said-written : (m : ℕ) → ent 𝓤 (ensured 𝓤 H A written.ended (written.clauses 𝓤 H A mem run) tt (r, tt) tt m) (fact 𝓤 (m ≡ writtenOf (flowsOutcome r)))
-    said-written m = exE 𝓤 _ (λ ws. snd∗ 𝓤 (sem 𝓤 H A (lasts written.ended tt (r, tt) ws)) (fact 𝓤 (m ≡ writtenOf (flowsOutcome r))))
+    said-written : (m : ℕ) → ent 𝓤 (ensured 𝓤 H A written.ended (written.clauses 𝓤 H A mem run) tt (r, tt) tt m) (fact 𝓤 (m ≡ value 0 (flowsOutcome r)))
+    said-written m = exE 𝓤 _ (λ ws. snd∗ 𝓤 (sem 𝓤 H A (lasts written.ended tt (r, tt) ws)) (fact 𝓤 (m ≡ value 0 (flowsOutcome r))))
 
     turns : (t : Upto) → Sq W (At t) (runs Cs Λ En mir.turn-1 (anyQ (Turned t)))
     unfolding afterTurn
@@ -547,8 +547,8 @@ module _ {M : Type 1} (𝓤 : URA M) (H : Heap 𝓤) (A : Atoms 𝓤) (W : Given
         use1 W (later (some (λ (m : ℕ). (‵ ftrue ⊛ ‵ (usize .own m (u ∷ []))) ⊛ raw (ensured 𝓤 H A written.ended (written.clauses 𝓤 H A mem run) tt (r, tt) tt m)))) (id⊢ 𝓤 _) $ await ! tt $ pick ! (λ m.
         split ! $
         move ! (1 ∷ []) $
-        use1 W (raw (fact 𝓤 (m ≡ writtenOf (flowsOutcome r)))) (said-written m) $
-        heard ! (m ≡ writtenOf (flowsOutcome r)) (λ e.
+        use1 W (raw (fact 𝓤 (m ≡ value 0 (flowsOutcome r)))) (said-written m) $
+        heard ! (m ≡ value 0 (flowsOutcome r)) (λ e.
         split ! $
         move ! (1 ∷ []) $
         peeks ! usize (Is usize) (shows 𝓤 H A usize) m (u ∷ []) (λ is.

@@ -4,7 +4,7 @@ use mathlib.Core.Path.{sym, ap}
 use borrow.Author.Needs.{needs}
 use Rattle.cash_flow.specs.Flows.{flowsOutcome}
 use Rattle.cash_flow.specs.declared.FlowsAnswer.{FlowsAnswer}
-use Rattle.rollout_records.specs.Steps.{writtenOf}
+use Rattle.paper.specs.Outcome.{value}
 use Rattle.rollout_records.proofs.written.Statement.{statement}
 use Rattle.rollout_records.proofs.written.Tie as tie
 
@@ -15,10 +15,10 @@ enum-told : tie.Need-enum-told
 enum-told c = search needs
 
 returns : tie.Need-returns
-returns c = ap (λ (a : FlowsAnswer). writtenOf (flowsOutcome a)) (sym (c .before .answer .given .1))
+returns c = ap (λ (a : FlowsAnswer). value 0 (flowsOutcome a)) (sym (c .before .answer .given .1))
 
 returns-2 : tie.Need-returns-2
-returns-2 c = ap (λ (a : FlowsAnswer). writtenOf (flowsOutcome a)) (sym (c .enum-told .given .1))
+returns-2 c = ap (λ (a : FlowsAnswer). value 0 (flowsOutcome a)) (sym (c .enum-told .given .1))
 
 pub written-spec : {M : Type 1} → statement M
 written-spec = tie.close (tie.spec enum-known-answer enum-told returns returns-2)

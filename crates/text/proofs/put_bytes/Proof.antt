@@ -3,9 +3,9 @@ use Prim.Native.Nat.{_≤_}
 use mathlib.Core.Path.{_≡_, refl, ap}
 use native.Mathlib.Omega.{arith}
 use lib.Seq.{take-length}
-use lib.ListN.{length, take, length-set}
+use lib.ListN.{length, take, length-set, length-take}
 use Rattle.text.specs.Writing.{put}
-use Rattle.text.proofs.Putting.{bytes-less, bytes-end}
+use Rattle.text.proofs.Putting.{bytes-less, all-put}
 use Rattle.text.proofs.put_bytes.Statement.{statement}
 use Rattle.text.proofs.put_bytes.Tie as tie
 
@@ -43,7 +43,7 @@ same-length : tie.Need-same-length Inv-loop μ-loop
 same-length c = omega arith
 
 returns : tie.Need-returns Inv-loop μ-loop
-returns c = (bytes-end _ _ (c .before .loop .i) (c .before .before .args .s .now) _ (c .before .loop .inv .2) (omega arith), refl)
+returns c = (all-put _ _ (take (c .before .loop .i) (c .before .before .args .s .now)) _ (c .before .loop .inv .2) (omega (arith, length-take (c .before .loop .i) (c .before .before .args .s .now))), refl)
 
 pub put-bytes-spec : {M : Type 1} → statement M
 put-bytes-spec =

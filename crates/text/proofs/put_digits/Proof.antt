@@ -5,7 +5,7 @@ use native.Mathlib.Omega.{arith}
 use lib.ListN.{length, length-set}
 use Rattle.text.specs.Writing.{digits, put}
 use Rattle.text_lengths.proofs.Digits.{length-digits}
-use Rattle.text.proofs.Putting.{digits-less, digits-end}
+use Rattle.text.proofs.Putting.{digits-less, all-put}
 use Rattle.text.proofs.put_digits.Statement.{statement}
 use Rattle.text.proofs.put_digits.Tie as tie
 
@@ -46,7 +46,7 @@ same-length : tie.Need-same-length Inv-loop μ-loop
 same-length c = omega arith
 
 returns : tie.Need-returns Inv-loop μ-loop
-returns c = (digits-end _ _ _ _ _ (c .before .loop .inv .2) (omega arith), omega (arith, length-digits (c .before .before .args .count) (c .before .before .args .n)))
+returns c = (all-put _ _ (digits (c .before .loop .i) (c .before .loop .rest)) _ (c .before .loop .inv .2) (omega (arith, length-digits (c .before .loop .i) (c .before .loop .rest))), omega (arith, length-digits (c .before .before .args .count) (c .before .before .args .n)))
 
 pub put-digits-spec : {M : Type 1} → statement M
 put-digits-spec =

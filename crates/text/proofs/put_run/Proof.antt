@@ -4,7 +4,7 @@ use mathlib.Core.Path.{_≡_, refl}
 use native.Mathlib.Omega.{arith}
 use lib.ListN.{length, replicate, length-set, length-replicate}
 use Rattle.text.specs.Writing.{put}
-use Rattle.text.proofs.Putting.{run-less, run-end}
+use Rattle.text.proofs.Putting.{run-less, all-put}
 use Rattle.text.proofs.put_run.Statement.{statement}
 use Rattle.text.proofs.put_run.Tie as tie
 
@@ -39,7 +39,7 @@ same-length : tie.Need-same-length Inv-loop μ-loop
 same-length c = omega arith
 
 returns : tie.Need-returns Inv-loop μ-loop
-returns c = (run-end _ _ (c .before .loop .i) _ _ (c .before .loop .inv .2) (omega arith), omega (arith, length-replicate (c .before .before .args .count) (c .before .before .args .b)))
+returns c = (all-put _ _ (replicate (c .before .loop .i) (c .before .before .args .b)) _ (c .before .loop .inv .2) (omega (arith, length-replicate (c .before .loop .i) (c .before .before .args .b))), omega (arith, length-replicate (c .before .before .args .count) (c .before .before .args .b)))
 
 pub put-run-spec : {M : Type 1} → statement M
 put-run-spec =

@@ -11,6 +11,7 @@ import os
 import sys
 
 import asked
+import demands
 import differences
 import paper
 import questions
@@ -59,8 +60,13 @@ def difference(k):
     return differences.ALL[k]
 
 
+def demand(k):
+    return demands.ALL[k]
+
+
 SETS = (
     ("the smallest input of each row of docs/DIFFERENCES.md", difference, len(differences.ALL), 1.0),
+    ("demands that ask for a run", demand, len(demands.ALL), 1.0),
     ("every period text of up to 4 bytes over %d letters" % len(LETTERS), period_text, len(TEXTS), 0.05),
     ("month steps of -30 to 30 from every day of nine years", month_step, 61 * sum(map(paper.year_length, MONTH_STEP_YEARS)), 0.1),
     ("every pair of days in four kinds of year, 30/360 and 30E/360", thirty_pair, 2 * sum(paper.year_length(y) ** 2 for y in YEARS), 0.15),

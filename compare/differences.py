@@ -5,7 +5,7 @@ import packing
 import paper
 import questions
 from paper import ADJUST, RULES, Table
-from questions import D, F, KEPT, N, P, T, W, Question, X, bits, day_text, line, rust_date, rust_note, rust_table
+from questions import D, F, KEPT, L, N, P, T, W, Question, X, bits, day_text, line, rust_date, rust_note, rust_table
 
 LEAST = questions.LEAST
 NOTE = {
@@ -59,6 +59,14 @@ def simple(rate, rule, today, flow):
     return Question("discount_cash_flow", 45, F(rate) + bytes((RULES.index(rule),)) + b"EUR" + D(today) + X(flow), text, ask, (ask, today, None, None))
 
 
+def stream(currency, flows):
+    rate, today = 0.5, (2021, 1, 1)
+    ask = lambda wrap=False: bits(paper.discount_stream(rate, "act365", currency, today, flows, wrap))
+    text = line("simple", bits(rate), "act365", questions.rust_currency(currency), rust_date(today), questions.flow_words(flows))
+    fields = F(rate) + bytes((RULES.index("act365"),)) + currency + D(today) + L(flows)
+    return Question("discount_cash_flow_stream", 57, fields, text, ask, (ask, today, None, None))
+
+
 def rounded(x, digits):
     return Question("round2digits", 36, F(x) + W(digits), line("round2", bits(x), str(digits)), lambda: bits(paper.round2digits(x, digits)))
 
@@ -91,6 +99,8 @@ ALL = [
     rollout(NOTE), listed(packing.pack(NOTE, [])),
     accrued(dict(NOTE, maturity=(2030, 1, 15)), (2021, 7, 16)),
     simple(0.5, "30360", (2020, 12, 31), ((2021, 1, 1), b"EUR", 1.0)), simple(0.5, "30e360", (2020, 12, 31), ((2021, 1, 1), b"EUR", 1.0)),
+    # this register answers, the Rust refuses
+    stream(b"eu1", []),
     # the Rust answers, this register refuses
     *[step("sub", (1, u), FIRST) for u in "DMY"], step("sub", (1, "B"), FIRST, Table([])),
     adjust("preceding", FIRST, [1]), adjust("modified", (1, 1, 6), list(range(1, 32))),
@@ -120,4 +130,5 @@ ALL = [
     simple(0.5, "icma", (2021, 1, 1), one_day()), simple(0.5, "30360", (2021, 1, 30), ((2021, 1, 31), b"EUR", 1.0)),
     # both refuse, the numbers differ
     fraction("30360", (2021, 1, 31), (2021, 1, 30)), step("sub", (LEAST, "M"), (2021, 1, 1)), step("sub", (LEAST, "Y"), (2021, 1, 1)),
+    rollout(dict(NOTE, issue=(0, 12, 31), coupon=(15, 13))), rollout(dict(NOTE, currency=b"eur", coupon=(15, 13))),
 ]

@@ -747,9 +747,10 @@ def packed_bytes(m):
 
 
 def q_read_note(m):
-    s = packed_bytes(m)
-    places = m.pick(4096, 4096, 20, 5, 0)
+    return read_question(packed_bytes(m), m.pick(4096, 4096, 20, 5, 0))
 
+
+def read_question(s, places):
     def answer():
         n, days = packing.read_note(s, places)
         words = [str(len(days)), str(n["count"]), str(n["digits"]), day_text(n["issue"]), day_text(n["maturity"]), "%d %d" % n["coupon"]]
@@ -762,8 +763,10 @@ def q_read_note(m):
 def q_write_note(m):
     n, table = m.rollable(), m.table(0.01)
     size = 32 + (22 * len(table.days) + 7) // 8
-    places = m.pick(size, size, 12000, size - 1, 0)
+    return write_question(n, table, m.pick(size, size, 12000, size - 1, 0))
 
+
+def write_question(n, table, places):
     def answer():
         data = packing.write_note(n, table, places)
         return "%d %s" % (len(data), data.hex())

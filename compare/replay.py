@@ -4,13 +4,14 @@
 
 Taken are questions that the original answers as document 01 does, so that every line of STDOUT is an answer of the Rust's; a few for each kind
 of question and of answer (entry point, rule, unit, adjustment, sign of the number, refusal), and at least 60 for each entry point.
-Behind them stand the smallest inputs of docs/DIFFERENCES.md, and there the lines are document 01's.
+Behind them stand the smallest inputs of docs/DIFFERENCES.md and the demands that ask for a run, and there the lines are document 01's.
 """
 import collections
 import re
 import sys
 
 import asked
+import demands
 import differences
 import rules
 import sides
@@ -43,12 +44,12 @@ def main():
             count[kind(q)] += 1
             names[q.name] += 1
             taken.append(q)
-    kept = taken + differences.ALL
+    kept = taken + differences.ALL + demands.ALL
     with open(stdin, "wb") as f:
         f.write(b"".join(q.record for q in kept))
     with open(stdout, "w") as f:
         f.write("".join(q.expected + "\n" for q in kept))
-    print("%d answers of the Rust's, of %d kinds and %d entry points; %d differences; %d bytes" % (len(taken), len(count), len(names), len(differences.ALL), sum(len(q.record) for q in kept)))
+    print("%d answers of the Rust's, of %d kinds and %d entry points; %d differences; %d of demands; %d bytes" % (len(taken), len(count), len(names), len(differences.ALL), len(demands.ALL), sum(len(q.record) for q in kept)))
     for name, n in sorted(names.items()):
         print("%-28s %5d" % (name, n))
 

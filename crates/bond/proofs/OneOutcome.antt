@@ -1,13 +1,13 @@
 -- No second answer satisfies an entry point's promise; and a refusal's number is never 0.
 -- Assumes nothing.
-use mathlib.Core.Path.{_≡_, sym, _∙_, ap}
+use mathlib.Core.Path.{_≡_, refl, sym, _∙_}
 use mathlib.Core.Bool.{Bool, true, not}
 use native.Mathlib.Omega.{arith}
 use lib.IntN.{pos}
 use lib.Signed.{leZ}
 use lib.Ieee.{Float}
 use Rattle.paper.specs.Outcome.{Numbered, both}
-use Rattle.paper.proofs.Outcomes.{given-injective, refused-injective, given-not-refused, unless-numbered, then-numbered, one-value}
+use Rattle.paper.proofs.Outcomes.{unless-numbered, then-numbered, one-value, answerOf, one-answer}
 use Rattle.calendar.specs.Dates.{isDate}
 use Rattle.calendar.specs.declared.DateAnswer.{DateAnswer}
 use Rattle.calendar.proofs.OneOutcome.{same-date-answer}
@@ -23,10 +23,7 @@ use Rattle.bond.specs.declared.NoteAnswer.{NoteAnswer}
 use Rattle.bond.specs.declared.NoteAnswer.the-variants as note-answer
 
 pub same-note-answer : (r s : NoteAnswer) → noteOutcome r ≡ noteOutcome s → r ≡ s
-same-note-answer (note-answer.Note a) (note-answer.Note b) e = ap note-answer.Note (given-injective e)
-same-note-answer (note-answer.Note a) (note-answer.Refused n) e = absurd (given-not-refused e)
-same-note-answer (note-answer.Refused m) (note-answer.Note b) e = absurd (given-not-refused (sym e))
-same-note-answer (note-answer.Refused m) (note-answer.Refused n) e = ap note-answer.Refused (refused-injective e)
+same-note-answer r s e = one-answer noteOutcome note-answer.Note note-answer.Refused (λ x. elim x as (λ y. answerOf note-answer.Note note-answer.Refused (noteOutcome y) ≡ y) [ note-answer.Note v ↦ refl | note-answer.Refused n ↦ refl ]) r s e
 
 pub one-checks : (position table : Bool) (n : Note) (r s : NoteAnswer) → ChecksPromise position table n r → ChecksPromise position table n s → r ≡ s
 one-checks position table n r s p q = same-note-answer r s (p ∙ sym q)

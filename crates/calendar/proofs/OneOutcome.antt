@@ -1,12 +1,12 @@
 -- No second answer satisfies an entry point's promise; and a refusal's number is never 0.
 -- Assumes nothing.
 use Prim.Native.Nat.{_+_}
-use mathlib.Core.Path.{_≡_, sym, _∙_, ap}
+use mathlib.Core.Path.{_≡_, refl, sym, _∙_}
 use mathlib.Core.Bool.{Bool}
 use native.Mathlib.Omega.{arith}
 use lib.Dec.{leb}
 use Rattle.paper.specs.Outcome.{Numbered, both}
-use Rattle.paper.proofs.Outcomes.{given-injective, refused-injective, given-not-refused, unless-numbered, one-value}
+use Rattle.paper.proofs.Outcomes.{unless-numbered, one-value, answerOf, one-answer}
 use Rattle.calendar.specs.Dates.{isDate, isDay, isBefore, isSame}
 use Rattle.calendar.specs.Answers.{dayOutcome, daysOutcome, dateOutcome, weekdayOutcome, dayOf, dateOf, weekdayOf, daysBetween, dayAfter, DayOfPromise, DateOfPromise, WeekdayPromise, DaysBetweenPromise, DayAfterPromise}
 use Rattle.calendar.specs.declared.Day.{Day}
@@ -22,28 +22,16 @@ use Rattle.calendar.specs.declared.WeekdayAnswer.{WeekdayAnswer}
 use Rattle.calendar.specs.declared.WeekdayAnswer.the-variants as weekday-answer
 
 pub same-day-answer : (r s : DayAnswer) → dayOutcome r ≡ dayOutcome s → r ≡ s
-same-day-answer (day-answer.Day a) (day-answer.Day b) e = ap day-answer.Day (given-injective e)
-same-day-answer (day-answer.Day a) (day-answer.Refused n) e = absurd (given-not-refused e)
-same-day-answer (day-answer.Refused m) (day-answer.Day b) e = absurd (given-not-refused (sym e))
-same-day-answer (day-answer.Refused m) (day-answer.Refused n) e = ap day-answer.Refused (refused-injective e)
+same-day-answer r s e = one-answer dayOutcome day-answer.Day day-answer.Refused (λ x. elim x as (λ y. answerOf day-answer.Day day-answer.Refused (dayOutcome y) ≡ y) [ day-answer.Day v ↦ refl | day-answer.Refused n ↦ refl ]) r s e
 
 pub same-days-answer : (r s : DaysAnswer) → daysOutcome r ≡ daysOutcome s → r ≡ s
-same-days-answer (days-answer.Days a) (days-answer.Days b) e = ap days-answer.Days (given-injective e)
-same-days-answer (days-answer.Days a) (days-answer.Refused n) e = absurd (given-not-refused e)
-same-days-answer (days-answer.Refused m) (days-answer.Days b) e = absurd (given-not-refused (sym e))
-same-days-answer (days-answer.Refused m) (days-answer.Refused n) e = ap days-answer.Refused (refused-injective e)
+same-days-answer r s e = one-answer daysOutcome days-answer.Days days-answer.Refused (λ x. elim x as (λ y. answerOf days-answer.Days days-answer.Refused (daysOutcome y) ≡ y) [ days-answer.Days v ↦ refl | days-answer.Refused n ↦ refl ]) r s e
 
 pub same-date-answer : (r s : DateAnswer) → dateOutcome r ≡ dateOutcome s → r ≡ s
-same-date-answer (date-answer.Date a) (date-answer.Date b) e = ap date-answer.Date (given-injective e)
-same-date-answer (date-answer.Date a) (date-answer.Refused n) e = absurd (given-not-refused e)
-same-date-answer (date-answer.Refused m) (date-answer.Date b) e = absurd (given-not-refused (sym e))
-same-date-answer (date-answer.Refused m) (date-answer.Refused n) e = ap date-answer.Refused (refused-injective e)
+same-date-answer r s e = one-answer dateOutcome date-answer.Date date-answer.Refused (λ x. elim x as (λ y. answerOf date-answer.Date date-answer.Refused (dateOutcome y) ≡ y) [ date-answer.Date v ↦ refl | date-answer.Refused n ↦ refl ]) r s e
 
 pub same-weekday-answer : (r s : WeekdayAnswer) → weekdayOutcome r ≡ weekdayOutcome s → r ≡ s
-same-weekday-answer (weekday-answer.Weekday a) (weekday-answer.Weekday b) e = ap weekday-answer.Weekday (given-injective e)
-same-weekday-answer (weekday-answer.Weekday a) (weekday-answer.Refused n) e = absurd (given-not-refused e)
-same-weekday-answer (weekday-answer.Refused m) (weekday-answer.Weekday b) e = absurd (given-not-refused (sym e))
-same-weekday-answer (weekday-answer.Refused m) (weekday-answer.Refused n) e = ap weekday-answer.Refused (refused-injective e)
+same-weekday-answer r s e = one-answer weekdayOutcome weekday-answer.Weekday weekday-answer.Refused (λ x. elim x as (λ y. answerOf weekday-answer.Weekday weekday-answer.Refused (weekdayOutcome y) ≡ y) [ weekday-answer.Weekday v ↦ refl | weekday-answer.Refused n ↦ refl ]) r s e
 
 -- one answer to each question
 pub one-is-date : (t : Date) (r s : Bool) → r ≡ isDate t → s ≡ isDate t → r ≡ s

@@ -1,4 +1,4 @@
--- What each entry point answers, on every input.
+-- What each entry point of `serial_days` answers, on every input.
 -- Assumes nothing.
 use Prim.Native.Nat.{ℕ, _+_, _-_, _%_}
 use mathlib.Core.Path.{_≡_}

@@ -1,10 +1,10 @@
 -- An answer is fixed by its outcome, and no second result satisfies an entry point's promise.
 -- Assumes nothing.
 use Prim.Native.Nat.{ℕ}
-use mathlib.Core.Path.{_≡_, sym, ap}
+use mathlib.Core.Path.{_≡_, refl}
 use mathlib.Core.Bool.{Bool}
 use lib.Ieee.{Float}
-use Rattle.paper.proofs.Outcomes.{given-injective, refused-injective, given-not-refused, one-value}
+use Rattle.paper.proofs.Outcomes.{one-value, answerOf, one-answer}
 use Rattle.calendar.specs.declared.Date.{Date}
 use Rattle.cash_flow.specs.Flows.{flowsOutcome, dateOn, AggregatablePromise, ComparisonPromise}
 use Rattle.cash_flow.specs.declared.CashFlow.{CashFlow}
@@ -12,10 +12,7 @@ use Rattle.cash_flow.specs.declared.FlowsAnswer.{FlowsAnswer}
 use Rattle.cash_flow.specs.declared.FlowsAnswer.the-variants.{Flows, Refused}
 
 pub same-flows-answer : (r s : FlowsAnswer) → flowsOutcome r ≡ flowsOutcome s → r ≡ s
-same-flows-answer (Flows a) (Flows b) e = ap Flows (given-injective e)
-same-flows-answer (Flows a) (Refused n) e = absurd (given-not-refused e)
-same-flows-answer (Refused m) (Flows b) e = absurd (given-not-refused (sym e))
-same-flows-answer (Refused m) (Refused n) e = ap Refused (refused-injective e)
+same-flows-answer r s e = one-answer flowsOutcome Flows Refused (λ x. elim x as (λ y. answerOf Flows Refused (flowsOutcome y) ≡ y) [ Flows v ↦ refl | Refused n ↦ refl ]) r s e
 
 pub one-aggregatable : (a b : CashFlow) (r s : Bool) → AggregatablePromise a b r → AggregatablePromise a b s → r ≡ s
 one-aggregatable a b r s p q = one-value r s p q

@@ -28,7 +28,7 @@ fn no_date() -> Date
     }
 }
 
-// The date of a serial day in a plain list; one that does not exist for a day that does not.
+// Inner: a day in a plain list is judged by who reads the list. Its date; one that does not exist for a day that does not.
 pub fn date_on(day: u32) -> Date
     ensures { λ r. ⌜ r ≡ dateOn day ⌝ }
 {

@@ -1,14 +1,14 @@
 -- No second answer satisfies an entry point's promise; a refusal's number is never 0; and codes and conventions name each other.
 -- Assumes nothing.
 use Prim.Native.Nat.{ℕ}
-use mathlib.Core.Path.{_≡_, refl, sym, _∙_, ap}
+use mathlib.Core.Path.{_≡_, refl, sym, _∙_}
 use mathlib.Core.Bool.{not}
 use native.Mathlib.Omega.{arith}
 use lib.Dec.{ltb}
 use lib.IntN.{pos}
 use lib.Signed.{leZ}
 use Rattle.paper.specs.Outcome.{given, Numbered, both}
-use Rattle.paper.proofs.Outcomes.{given-injective, refused-injective, given-not-refused, unless-numbered, then-numbered, one-value}
+use Rattle.paper.proofs.Outcomes.{unless-numbered, then-numbered, one-value, answerOf, one-answer}
 use Rattle.calendar.specs.Dates.{isDate, isBefore}
 use Rattle.calendar.specs.declared.Date.{Date}
 use Rattle.time_period.specs.Periods.{frequencyOf}
@@ -31,16 +31,10 @@ use Rattle.day_count_conv.specs.declared.ConventionAnswer.{ConventionAns
 use Rattle.day_count_conv.specs.declared.ConventionAnswer.the-variants as convention-answer
 
 pub same-fraction-answer : (r s : YearFraction) → fractionOutcome r ≡ fractionOutcome s → r ≡ s
-same-fraction-answer (year-fraction.Fraction a) (year-fraction.Fraction b) e = ap year-fraction.Fraction (given-injective e)
-same-fraction-answer (year-fraction.Fraction a) (year-fraction.Refused n) e = absurd (given-not-refused e)
-same-fraction-answer (year-fraction.Refused m) (year-fraction.Fraction b) e = absurd (given-not-refused (sym e))
-same-fraction-answer (year-fraction.Refused m) (year-fraction.Refused n) e = ap year-fraction.Refused (refused-injective e)
+same-fraction-answer r s e = one-answer fractionOutcome year-fraction.Fraction year-fraction.Refused (λ x. elim x as (λ y. answerOf year-fraction.Fraction year-fraction.Refused (fractionOutcome y) ≡ y) [ year-fraction.Fraction v ↦ refl | year-fraction.Refused n ↦ refl ]) r s e
 
 pub same-convention-answer : (r s : ConventionAnswer) → conventionOutcome r ≡ conventionOutcome s → r ≡ s
-same-convention-answer (convention-answer.Convention a) (convention-answer.Convention b) e = ap convention-answer.Convention (given-injective e)
-same-convention-answer (convention-answer.Convention a) (convention-answer.Refused n) e = absurd (given-not-refused e)
-same-convention-answer (convention-answer.Refused m) (convention-answer.Convention b) e = absurd (given-not-refused (sym e))
-same-convention-answer (convention-answer.Refused m) (convention-answer.Refused n) e = ap convention-answer.Refused (refused-injective e)
+same-convention-answer r s e = one-answer conventionOutcome convention-answer.Convention convention-answer.Refused (λ x. elim x as (λ y. answerOf convention-answer.Convention convention-answer.Refused (conventionOutcome y) ≡ y) [ convention-answer.Convention v ↦ refl | convention-answer.Refused n ↦ refl ]) r s e
 
 pub one-fraction : (rule : DayCountConv) (start end : Date) (x : Extras) (r s : YearFraction) → FractionPromise rule start end x r → FractionPromise rule start end x s → r ≡ s
 one-fraction rule start end x r s p q = same-fraction-answer r s (p .0 ∙ sym (q .0))

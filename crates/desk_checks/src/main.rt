@@ -17,6 +17,7 @@ use day_count_conv::RollPeriod;
 use day_count_conv::YearFraction;
 use libc::STDOUT_FILENO;
 use note_limits::NoteNumber;
+use time_period::PeriodAnswer;
 use time_period::TimePeriod;
 use time_period::TimePeriodUnit;
 
@@ -83,6 +84,7 @@ fn print_rule(c: DayCountConv) {
         DayCountConv::Act365l => print_bytes(b"act/365 leap, "),
         DayCountConv::D30_360 => print_bytes(b"30/360, "),
         DayCountConv::D30E360 => print_bytes(b"30E/360, "),
+        DayCountConv::ActActICMA => print_bytes(b"ICMA, "),
         _ => print_bytes(b"another rule, "),
     }
 }
@@ -253,6 +255,20 @@ fn ask_coupon(c: Tally, s: &[u8], want: u32) -> Tally {
     told_coupon(c, coupon_text::read_coupon_date(s), want)
 }
 
+// A period's text; each that is asked is to be refused.
+fn ask_period(c: Tally, s: &[u8], want: u32) -> Tally {
+    print_bytes(b"- period ");
+    print_bytes(s);
+    end_question();
+    match period_text::read_period(s) {
+        PeriodAnswer::Period(p) => {
+            print_period(p);
+            ended(c, false)
+        }
+        PeriodAnswer::Refused(n) => told_refusal(c, n, want),
+    }
+}
+
 // A date adjusted under a table.
 fn ask_adjusted(c: Tally, row: u8, rule: DayAdjust, on: u32, table: &[u32], want: u32) -> Tally {
     let t = date_in(on);
@@ -337,6 +353,19 @@ fn ask_icma(
         want,
         number,
     )
+}
+
+// ICMA, rolled from a date, but by no period.
+fn ask_unperioded(c: Tally, roll: u32, start: u32, end: u32, number: u32) -> Tally {
+    let t = date_in(roll);
+    let x = Extras {
+        roll: RollDate::Date(t),
+        period: RollPeriod::Absent,
+    };
+    print_bytes(b"- ICMA, roll ");
+    print_date(t);
+    print_bytes(b", ");
+    ask_between(c, DayCountConv::ActActICMA, start, end, x, 0.0, number)
 }
 
 // A note of 1000 EUR, 30E/360, modified, with its coupons in July.
@@ -566,6 +595,29 @@ fn slip_range(c: Tally) -> Tally {
     ask_flows(c, note_of(4.0, 99990101, 99991231, 15, 30, b'W'), 0, 1)
 }
 
+// The refusals that no listed note meets: of texts, and of fractions.
+fn other_texts(c: Tally) -> Tally {
+    let c = ask_period(c, b"M", 2);
+    let c = ask_period(c, b"6m", 3);
+    let c = ask_period(c, b"+M", 4);
+    let c = ask_period(c, b" 1M", 4);
+    ask_coupon(c, b"15", 6)
+}
+
+fn other_fractions(c: Tally) -> Tally {
+    let c = ask_fraction(
+        c,
+        b'-',
+        DayCountConv::ActActICMA,
+        20210101,
+        20210301,
+        0.0,
+        10,
+    );
+    let c = ask_unperioded(c, 20210101, 20210101, 20210301, 11);
+    ask_fraction(c, b'-', DayCountConv::D30_360, 20210301, 20210101, 0.0, 19)
+}
+
 fn card(c: Tally) -> Tally {
     print_bytes(b"The desk card\n");
     card_note(card_fractions(card_steps(c)))
@@ -581,8 +633,13 @@ fn slips(c: Tally) -> Tally {
     slip_range(slip_zero_periods(slip_dots(slip_coupon_days(slip_months(c)))))
 }
 
+fn others(c: Tally) -> Tally {
+    print_bytes(b"The other refusals\n");
+    other_fractions(other_texts(c))
+}
+
 fn main() {
-    let c = slips(limits(card(Tally { good: 0, wrong: 0 })));
+    let c = others(slips(limits(card(Tally { good: 0, wrong: 0 }))));
     print_number(c.good as u64);
     print_bytes(b" as written, ");
     print_number(c.wrong as u64);

@@ -85,6 +85,6 @@ pub fn hand_coupon_check(a: CouponAnswer) -> u32
 {
     match a {
         CouponAnswer::Coupon(_) => ANSWERED,
-        CouponAnswer::Refused(n) => n,
+        CouponAnswer::Refused(k) => k,
     }
 }

@@ -1,12 +1,12 @@
 -- No second outcome satisfies what an entry point promises: each answer is told by its outcome.
 -- Assumes nothing.
 use Prim.Native.Nat.{ℕ, zero, suc, _+_, _-_}
-use mathlib.Core.Path.{_≡_, sym, ap, _∙_}
+use mathlib.Core.Path.{_≡_, refl, sym, _∙_}
 use mathlib.Core.List.{List}
 use mathlib.Core.Bool.{Bool, true, false}
 use native.Mathlib.Omega.{arith}
 use Rattle.paper.specs.Outcome.{Outcome, Numbered}
-use Rattle.paper.proofs.Outcomes.{given-injective, refused-injective, given-not-refused, unless-numbered, then-numbered}
+use Rattle.paper.proofs.Outcomes.{answerOf, one-answer, unless-numbered, then-numbered}
 use Rattle.calendar.specs.Dates.{isDay}
 use Rattle.calendar.specs.declared.Day.{Day}
 use Rattle.calendar.specs.declared.DayAnswer.{DayAnswer}
@@ -19,10 +19,7 @@ use Rattle.holidays.specs.declared.BusinessAnswer.the-variants as busine
 use Rattle.holidays.proofs.Days.{choose}
 
 pub same-business-answer : (r s : BusinessAnswer) → businessOutcome r ≡ businessOutcome s → r ≡ s
-same-business-answer (business-answer.Business a) (business-answer.Business b) q = ap business-answer.Business (given-injective q)
-same-business-answer (business-answer.Business a) (business-answer.Refused n) q = absurd (given-not-refused q)
-same-business-answer (business-answer.Refused m) (business-answer.Business b) q = absurd (given-not-refused (sym q))
-same-business-answer (business-answer.Refused m) (business-answer.Refused n) q = ap business-answer.Refused (refused-injective q)
+same-business-answer r s e = one-answer businessOutcome business-answer.Business business-answer.Refused (λ x. elim x as (λ y. answerOf business-answer.Business business-answer.Refused (businessOutcome y) ≡ y) [ business-answer.Business v ↦ refl | business-answer.Refused n ↦ refl ]) r s e
 
 module _ (t : List ℕ) where
   pub one-table : (r s : Bool) → TablePromise t r → TablePromise t s → r ≡ s

@@ -1,4 +1,4 @@
--- What each entry point answers, on every input, and what it promises.
+-- What each entry point of `holiday_tables` and `business_days` answers, on every input, and what it promises.
 -- Assumes nothing.
 use Prim.Native.Nat.{ℕ}
 use mathlib.Core.Path.{_≡_}

@@ -1,4 +1,4 @@
--- What the functions behind the entry points ask of their callers, and what the search of the table finds.
+-- What the inner functions ask of their callers, and what the search of the table finds; no promise of an entry point rests on this.
 -- Assumes nothing.
 use Prim.Native.Nat.{ℕ, _≤_, _<_}
 use mathlib.Core.Path.{_≡_}

@@ -1,13 +1,13 @@
 -- No second answer and no other places satisfy the promise; and a refusal's number is never 0.
 -- Assumes nothing.
 use Prim.Native.Nat.{ℕ}
-use mathlib.Core.Path.{_≡_, sym, ap, _∙_}
+use mathlib.Core.Path.{_≡_, refl, sym, _∙_}
 use mathlib.Core.List.{List}
 use native.Mathlib.Omega.{arith}
 use lib.Dec.{leb}
 use lib.ListN.{length}
 use Rattle.paper.specs.Outcome.{Numbered}
-use Rattle.paper.proofs.Outcomes.{given-injective, refused-injective, given-not-refused, unless-numbered, then-numbered}
+use Rattle.paper.proofs.Outcomes.{unless-numbered, then-numbered, answerOf, one-answer}
 use Rattle.packed_numbers.specs.Numbers.{rawOf}
 use Rattle.packed_note.proofs.OneOutcome.{note-in-numbered}
 use Rattle.packed_table.specs.Tables.{isWhole, isTableIn}
@@ -16,10 +16,7 @@ use Rattle.packed.specs.declared.PackedAnswer.{PackedAnswer}
 use Rattle.packed.specs.declared.PackedAnswer.the-variants as packed-answer
 
 pub same-packed-answer : (r s : PackedAnswer) → packedOutcome r ≡ packedOutcome s → r ≡ s
-same-packed-answer (packed-answer.Packed a) (packed-answer.Packed b) e = ap packed-answer.Packed (given-injective e)
-same-packed-answer (packed-answer.Packed a) (packed-answer.Refused n) e = absurd (given-not-refused e)
-same-packed-answer (packed-answer.Refused m) (packed-answer.Packed b) e = absurd (given-not-refused (sym e))
-same-packed-answer (packed-answer.Refused m) (packed-answer.Refused n) e = ap packed-answer.Refused (refused-injective e)
+same-packed-answer r s e = one-answer packedOutcome packed-answer.Packed packed-answer.Refused (λ x. elim x as (λ y. answerOf packed-answer.Packed packed-answer.Refused (packedOutcome y) ≡ y) [ packed-answer.Packed v ↦ refl | packed-answer.Refused n ↦ refl ]) r s e
 
 -- the answer and the places
 pub one-read : (s old new other : List ℕ) (r t : PackedAnswer) → ReadPromise s old new r → ReadPromise s old other t → (r ≡ t) × (new ≡ other)

@@ -17,7 +17,7 @@ units = unit.Daily ∷ unit.BusinessDaily ∷ unit.Weekly ∷ unit.Monthly ∷ u
 unfoldable pub unitOfCode : ℕ → Outcome TimePeriodUnit
 unitOfCode n = unless (ltb n 5) 18 (given (getD units n unit.Daily))
 
--- adjustment 2 (none, following, preceding, modified = 0 to 3)
+-- adjustment 2 (none, following, preceding, modified = 0 to 3); two bits hold no other code
 abbrev pub rules : List DayAdjust
 rules = rule.None ∷ rule.Following ∷ rule.Preceding ∷ rule.Modified ∷ []
 

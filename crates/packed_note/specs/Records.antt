@@ -49,7 +49,7 @@ noteWith r u c = record {
   currency = currencyIn (r .letters);
 }
 
--- order for a note: 18 for the day count's code and the unit's, then the note's own checks
+-- order for a note: 18 for the codes, then the note's own checks
 unfoldable pub checkedUnit : Bool → Raw → TimePeriodUnit → Outcome Note
 checkedUnit table r u = andThen (conventionOf (r .terms .convention)) (λ c. noteChecks true table (noteWith r u c))
 

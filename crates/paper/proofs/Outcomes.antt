@@ -19,6 +19,14 @@ given-not-refused e = let z : _≡_ {A = ℕ} 0 1 = cc in omega arith
 pub one-value : {A : Type 0} {x : A} (r s : A) → r ≡ x → s ≡ x → r ≡ s
 one-value r s p q = p ∙ sym q
 
+-- the answer in code that an outcome is: its value's, or its number's; two answers with one outcome are one
+abbrev pub answerOf : {A R : Type 0} → (A → R) → (ℕ → R) → Outcome A → R
+answerOf valued numbered (given a) = valued a
+answerOf valued numbered (refused n) = numbered n
+
+pub one-answer : {A R : Type 0} (out : R → Outcome A) (valued : A → R) (numbered : ℕ → R) → ((r : R) → answerOf valued numbered (out r) ≡ r) → (r s : R) → out r ≡ out s → r ≡ s
+one-answer out valued numbered back r s e = sym (back r) ∙ ap (answerOf valued numbered) e ∙ back s
+
 pub zero-where-given : {A : Type 0} (o : Outcome A) → Given o → number o ≡ 0
 zero-where-given (given a) g = refl
 zero-where-given (refused n) g = absurd g

@@ -1,12 +1,12 @@
 -- No second answer satisfies an entry point's promise; and a refusal's number is never 0. Assumes nothing.
-use mathlib.Core.Path.{_≡_, sym, _∙_, ap}
+use mathlib.Core.Path.{_≡_, refl, sym, _∙_}
 use mathlib.Core.List.{List, [], _∷_}
 use native.Mathlib.Omega.{arith}
 use lib.IntN.{pos}
 use lib.Ieee.{Float, binary64, add, mul}
 use lib.Ieee.Scale.{finite}
 use Rattle.paper.specs.Outcome.{given, Numbered}
-use Rattle.paper.proofs.Outcomes.{given-injective, refused-injective, given-not-refused, unless-numbered, then-numbered}
+use Rattle.paper.proofs.Outcomes.{unless-numbered, then-numbered, answerOf, one-answer}
 use Rattle.calendar.specs.declared.Date.{Date}
 use Rattle.cash_amount.specs.declared.AmountAnswer.{AmountAnswer}
 use Rattle.cash_amount.proofs.OneOutcome.{same-amount-answer}
@@ -22,10 +22,7 @@ use Rattle.rates.specs.declared.FactorAnswer.{FactorAnswer}
 use Rattle.rates.specs.declared.FactorAnswer.the-variants as factor-answer
 
 pub same-factor-answer : (r s : FactorAnswer) → factorOutcome r ≡ factorOutcome s → r ≡ s
-same-factor-answer (factor-answer.Factor a) (factor-answer.Factor b) e = ap factor-answer.Factor (given-injective e)
-same-factor-answer (factor-answer.Factor a) (factor-answer.Refused n) e = absurd (given-not-refused e)
-same-factor-answer (factor-answer.Refused m) (factor-answer.Factor b) e = absurd (given-not-refused (sym e))
-same-factor-answer (factor-answer.Refused m) (factor-answer.Refused n) e = ap factor-answer.Refused (refused-injective e)
+same-factor-answer r s e = one-answer factorOutcome factor-answer.Factor factor-answer.Refused (λ x. elim x as (λ y. answerOf factor-answer.Factor factor-answer.Refused (factorOutcome y) ≡ y) [ factor-answer.Factor v ↦ refl | factor-answer.Refused n ↦ refl ]) r s e
 
 -- one answer to each question
 module _ (rate : FlatRate) (today : Date) where

@@ -1,18 +1,15 @@
 -- No second outcome meets a promise: each fixes the answer and the bytes. Assumes nothing.
 use Prim.Native.Nat.{ℕ}
-use mathlib.Core.Path.{_≡_, sym, ap, _∙_}
+use mathlib.Core.Path.{_≡_, refl, sym, _∙_}
 use mathlib.Core.List.{List}
 use Rattle.paper.specs.Outcome.{Outcome}
-use Rattle.paper.proofs.Outcomes.{given-injective, refused-injective, given-not-refused}
+use Rattle.paper.proofs.Outcomes.{answerOf, one-answer}
 use Rattle.text.specs.declared.LengthAnswer.{LengthAnswer}
 use Rattle.text.specs.declared.LengthAnswer.the-variants as length
 use Rattle.text.specs.Writing.{Wrote, Written, lengthOutcome, Writes, Takes}
 
 pub same-length : (r t : LengthAnswer) → lengthOutcome r ≡ lengthOutcome t → r ≡ t
-same-length (length.Length v) (length.Length w) e = ap length.Length (given-injective e)
-same-length (length.Length v) (length.Refused n) e = absurd (given-not-refused e)
-same-length (length.Refused n) (length.Length v) e = absurd (given-not-refused (sym e))
-same-length (length.Refused m) (length.Refused n) e = ap length.Refused (refused-injective e)
+same-length r t e = one-answer lengthOutcome length.Length length.Refused (λ x. elim x as (λ y. answerOf length.Length length.Refused (lengthOutcome y) ≡ y) [ length.Length v ↦ refl | length.Refused n ↦ refl ]) r t e
 
 -- ---- writers: the answer and the bytes, whatever the text
 

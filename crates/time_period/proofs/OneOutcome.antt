@@ -1,12 +1,12 @@
 -- No second answer satisfies an entry point's promise; and a refusal's number is never 0.
 -- Assumes nothing.
 use Prim.Native.Nat.{ℕ, _<_}
-use mathlib.Core.Path.{_≡_, refl, sym, _∙_, ap}
+use mathlib.Core.Path.{_≡_, refl, sym, _∙_}
 use mathlib.Core.Bool.{not}
 use native.Mathlib.Omega.{arith}
 use lib.IntN.{ℤ}
 use Rattle.paper.specs.Outcome.{Outcome, given, refused, Numbered}
-use Rattle.paper.proofs.Outcomes.{given-injective, refused-injective, given-not-refused, unless-numbered}
+use Rattle.paper.proofs.Outcomes.{unless-numbered, answerOf, one-answer}
 use Rattle.calendar.specs.declared.Date.{Date}
 use Rattle.time_period.specs.Periods.{periodOutcome, frequencyOutcome, frequencyOf, FrequencyPromise}
 use Rattle.time_period.specs.Steps.{absent, businessStep, unitStep, isLeast, inverseOf, InversePromise}
@@ -21,16 +21,10 @@ use Rattle.time_period.proofs.Frequencies.{frequent}
 use Rattle.time_period.proofs.Steps.{step-refuses}
 
 pub same-period-answer : (r s : PeriodAnswer) → periodOutcome r ≡ periodOutcome s → r ≡ s
-same-period-answer (period-answer.Period a) (period-answer.Period b) e = ap period-answer.Period (given-injective e)
-same-period-answer (period-answer.Period a) (period-answer.Refused n) e = absurd (given-not-refused e)
-same-period-answer (period-answer.Refused m) (period-answer.Period b) e = absurd (given-not-refused (sym e))
-same-period-answer (period-answer.Refused m) (period-answer.Refused n) e = ap period-answer.Refused (refused-injective e)
+same-period-answer r s e = one-answer periodOutcome period-answer.Period period-answer.Refused (λ x. elim x as (λ y. answerOf period-answer.Period period-answer.Refused (periodOutcome y) ≡ y) [ period-answer.Period v ↦ refl | period-answer.Refused n ↦ refl ]) r s e
 
 pub same-frequency-answer : (r s : FrequencyAnswer) → frequencyOutcome r ≡ frequencyOutcome s → r ≡ s
-same-frequency-answer (frequency-answer.Frequency a) (frequency-answer.Frequency b) e = ap frequency-answer.Frequency (given-injective e)
-same-frequency-answer (frequency-answer.Frequency a) (frequency-answer.Refused n) e = absurd (given-not-refused e)
-same-frequency-answer (frequency-answer.Refused m) (frequency-answer.Frequency b) e = absurd (given-not-refused (sym e))
-same-frequency-answer (frequency-answer.Refused m) (frequency-answer.Refused n) e = ap frequency-answer.Refused (refused-injective e)
+same-frequency-answer r s e = one-answer frequencyOutcome frequency-answer.Frequency frequency-answer.Refused (λ x. elim x as (λ y. answerOf frequency-answer.Frequency frequency-answer.Refused (frequencyOutcome y) ≡ y) [ frequency-answer.Frequency v ↦ refl | frequency-answer.Refused n ↦ refl ]) r s e
 
 module _ (p : TimePeriod) where
   pub one-frequency : (r s : FrequencyAnswer) → FrequencyPromise p r → FrequencyPromise p s → r ≡ s

@@ -14,9 +14,9 @@ use Rattle.gregorian.specs.Gregorian.{monthLength}
 use Rattle.calendar.specs.Dates.{isDate, isDay, dayNumber, theDate, monthIndex, monthDate}
 use Rattle.calendar.specs.Answers.{dateOf}
 use Rattle.date_step.specs.Steps.{landing, monthsLater, addMonths, existingDate, yearsLater, addYears, daysLater, addDays}
-use Rattle.calendar.specs.declared.Day.{Day}
 use Rattle.calendar.specs.declared.Date.{Date}
-use Rattle.calendar.proofs.Dates.{IsDate, date-yes, day-yes, the-date-is, number-found}
+use Rattle.calendar.proofs.Dates.{IsDate, date-yes}
+use Rattle.calendar.proofs.Inverse.{on-day}
 use Rattle.calendar.proofs.Order.{InMonth, month-date, month-order}
 
 -- what was reached is the number moved to
@@ -116,17 +116,10 @@ pub record DaysOn (t : Date) (n : ℤ) (u : Date) : Type 0 where
   pub number : pos (dayNumber t) +ℤ n ≡ pos (dayNumber u)
 
 pub days-on : (t : Date) (n : ℤ) (u : Date) → addDays t n ≡ given u → DaysOn t n u
-unfolding addDays daysLater dateOf
+unfolding addDays daysLater
 days-on t n u e =
     let g = unless-given (isDate t) 1 _ u e in
     let m = then-given (landing 3652059 (pos (dayNumber t) +ℤ n)) (λ k. dateOf (record { 0 = k })) u (g .1) in
     let l = landed 3652059 (pos (dayNumber t) +ℤ n) (m .0) (m .1) in
-    let d : Day = record { 0 = m .0 } in
-    let x = unless-given (isDay d) 1 (given (theDate (m .0))) u (m .2) in
-    let k = day-yes d (x .0) in
-    let q : theDate (m .0) ≡ u = given-injective (x .1) in
-    record {
-      from = date-yes t (g .0);
-      dated = subst IsDate q (the-date-is (m .0) (k .0) (k .1));
-      number = l .0 ∙ ap pos (sym (number-found (m .0) (k .0) (k .1)) ∙ ap dayNumber q);
-    }
+    let d = on-day (record { 0 = m .0 }) u (m .2) in
+    record { from = date-yes t (g .0); dated = d .0; number = l .0 ∙ ap pos (sym (d .1)) }

@@ -1,6 +1,6 @@
 -- What a step of months, years or days leads to.
 -- Assumes nothing.
-use Prim.Native.Nat.{ℕ, zero, suc, _+_, _-_, _≤_, _<_, min}
+use Prim.Native.Nat.{ℕ, zero, suc, _-_, _≤_, _<_, min}
 use mathlib.Core.Path.{_≡_, refl, sym, _∙_, ap, subst}
 use mathlib.Core.Bool.{true}
 use native.Mathlib.Omega.{arith}
@@ -17,7 +17,7 @@ use Rattle.date_step.specs.Steps.{landing, monthsLater, addMonths, exist
 use Rattle.calendar.specs.declared.Date.{Date}
 use Rattle.calendar.proofs.Dates.{IsDate, date-yes}
 use Rattle.calendar.proofs.Inverse.{on-day}
-use Rattle.calendar.proofs.Order.{InMonth, month-date, month-order}
+use Rattle.calendar.proofs.Order.{InMonth, month-date}
 
 -- what was reached is the number moved to
 pub landed : (last : ℕ) (z : ℤ) (i : ℕ) → landing last z ≡ given i → (z ≡ pos i) × (i ≤ last)
@@ -51,19 +51,13 @@ months-on t n u e =
     record { from = h; dated = i .dated; index = l .0 ∙ ap pos (sym (i .index)); cut = i .cut }
 
 -- and every month of the calendar is reached
-pub months-reach : (t : Date) (n : ℤ) (i : ℕ) → isDate t ≡ true → pos (monthIndex t) +ℤ n ≡ pos i → i ≤ 119987 → addMonths t n ≡ given (monthDate i (t .day))
-unfolding addMonths monthsLater
-months-reach t n i d e h = rw (d, e, lands-at 119987 i h)
+pub months-to : (t : Date) (n : ℤ) (i : ℕ) → pos (monthIndex t) +ℤ n ≡ pos i → i ≤ 119987 → monthsLater t n ≡ given (monthDate i (t .day))
+unfolding monthsLater
+months-to t n i e h = rw (e, lands-at 119987 i h)
 
--- a positive number of months leads to a later day
-pub months-later-day : (t : Date) (n : ℕ) (u : Date) → 1 ≤ n → addMonths t (pos n) ≡ given u → dayNumber t < dayNumber u
-months-later-day t n u h e =
-    let m = months-on t (pos n) u e in
-    let i : monthIndex t + n ≡ monthIndex u = pos-injective (m .index) in
-    month-order t u (m .from) (m .dated) (omega arith)
-  where
-    pos-injective : {a b : ℕ} → pos a ≡ pos b → a ≡ b
-    pos-injective e = cc
+pub months-reach : (t : Date) (n : ℤ) (i : ℕ) → isDate t ≡ true → pos (monthIndex t) +ℤ n ≡ pos i → i ≤ 119987 → addMonths t n ≡ given (monthDate i (t .day))
+unfolding addMonths
+months-reach t n i d e h = rw d (months-to t n i e h)
 
 -- n years on: the same month and day
 pub record YearsOn (t : Date) (n : ℤ) (u : Date) : Type 0 where

@@ -36,10 +36,17 @@ module _ (t u : Date) (h : IsDate t) (k : IsDate u) where
         ap (λ (y : ℕ). beforeMonth y (u .month)) s,
       )
 
-  same-month : t .year ≡ u .year → t .month ≡ u .month → dayNumber t + u .day ≡ dayNumber u + t .day
+  -- in one month the days are as far apart as the serial days
+  pub same-month : t .year ≡ u .year → t .month ≡ u .month → dayNumber t + u .day ≡ dayNumber u + t .day
   unfolding dayNumber
   same-month s m =
       omega (arith, ap beforeYear s, ap (λ (y : ℕ). beforeMonth y (u .month)) s, ap (beforeMonth (t .year)) m)
+
+  -- a month's number tells its year and the month within it
+  pub one-month : monthIndex t ≡ monthIndex u → (t .year ≡ u .year) × (t .month ≡ u .month)
+  one-month e =
+      let y : t .year ≡ u .year = omega (arith, h .month-to, k .month-to, h .month-from, k .month-from, h .year-from, k .year-from) in
+      (y, omega (arith, h .month-from, k .month-from))
 
   -- a later month by its number: a later day
   pub month-order : monthIndex t < monthIndex u → dayNumber t < dayNumber u

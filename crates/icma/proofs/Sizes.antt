@@ -15,8 +15,7 @@ use Rattle.rounding.proofs.Gap.{abs-gap}
 use Rattle.calendar.specs.Dates.{isDate, isBefore, dayNumber, monthIndex}
 use Rattle.calendar.specs.declared.Date.{Date}
 use Rattle.calendar.proofs.Dates.{IsDate, date-yes, number-to}
-use Rattle.calendar.proofs.Order.{before-days, index-to}
-use Rattle.gregorian.specs.Gregorian.{beforeYear, beforeMonth}
+use Rattle.calendar.proofs.Order.{same-month, one-month, before-days, index-to}
 use Rattle.time_period.specs.Steps.{absent, unitStep}
 use Rattle.icma_walks.specs.Walks.{from}
 use Rattle.icma.specs.Walk.{step, negated, walk, turnOn, walkOn, turnBack, walkBack, baseFrom, shortParts, firstPart, lastPart, toLast, toEnd, toFirst, longParts, partsFrom, icmaParts}
@@ -36,20 +35,10 @@ use Rattle.time_period.proofs.Signs.{negative-back}
 use Rattle.time_period.proofs.Steps.{step-later, step-earlier}
 
 -- two dates of one month are at most 30 days apart
-same-month : (t u : Date) → IsDate t → IsDate u → monthIndex t ≡ monthIndex u → dayNumber t ≤ dayNumber u + 30
-unfolding dayNumber
-same-month t u h k e =
-    let y : t .year ≡ u .year = omega (arith, h .month-to, k .month-to, h .month-from, k .month-from, h .year-from, k .year-from) in
-    let m : t .month ≡ u .month = omega (arith, h .month-to, k .month-to, h .month-from, k .month-from) in
-    omega (
-      arith,
-      ap beforeYear y,
-      ap (λ (x : ℕ). beforeMonth x (u .month)) y,
-      ap (beforeMonth (t .year)) m,
-      h .day-to,
-      k .day-from,
-      at-most (t .year) (t .month),
-    )
+near-in-month : (t u : Date) → IsDate t → IsDate u → monthIndex t ≡ monthIndex u → dayNumber t ≤ dayNumber u + 30
+near-in-month t u h k e =
+    let o = one-month t u h k e in
+    omega (arith, same-month t u h k (o .0) (o .1), h .day-to, k .day-from, at-most (t .year) (t .month))
 
 -- a step of n months or years moves the month's number by as many months, forward and back
 index-add : (a b n : ℕ) → pos a +ℤ pos n ≡ pos b → a + n ≡ b
@@ -161,7 +150,7 @@ module _ (p : TimePeriod) (n : ℕ) (is : p .num ≡ pos n) (some : 1 ≤ months
           let y = past-back start base b db h k w in
           let s = step-later p (b .at) u (end .0 .dated) above (g .1) in
           let i : monthIndex (y .0) ≡ monthIndex u = sym (back-index (y .0) (b .at) (y .1) (y .3)) ∙ on-index (b .at) u (end .0 .dated) (g .1) in
-          let near = same-month (y .0) u (date-yes (y .0) (y .1)) (date-yes u (s .0)) i in
+          let near = near-in-month (y .0) u (date-yes (y .0) (y .1)) (date-yes u (s .0)) i in
           let past = before-days start (y .0) (date-yes start ds) (date-yes (y .0) (y .1)) (y .2) in
           let first = before-days (b .at) start (date-yes (b .at) (end .0 .dated)) (date-yes start ds) k in
           subst BrokenSize (given-injective (g .2))
@@ -180,7 +169,7 @@ module _ (p : TimePeriod) (n : ℕ) (is : p .num ≡ pos n) (some : 1 ≤ months
           let y = past-on end base v db h k w in
           let s = step-earlier (negated p) (v .at) u (stop .0 .dated) below (g .1) in
           let i : monthIndex u + monthsIn (p .unit) n ≡ monthIndex (y .0) + monthsIn (p .unit) n = back-index (v .at) u (stop .0 .dated) (g .1) ∙ sym (on-index (y .0) (v .at) (y .1) (y .3)) in
-          let near = same-month u (y .0) (date-yes u (s .0)) (date-yes (y .0) (y .1)) (omega arith) in
+          let near = near-in-month u (y .0) (date-yes u (s .0)) (date-yes (y .0) (y .1)) (omega arith) in
           let past = before-days (y .0) end (date-yes (y .0) (y .1)) (date-yes end ds) (y .2) in
           let last = before-days end (v .at) (date-yes end ds) (date-yes (v .at) (stop .0 .dated)) k in
           let f = number-to (v .at) (date-yes (v .at) (stop .0 .dated)) in
@@ -211,7 +200,7 @@ module _ (p : TimePeriod) (n : ℕ) (is : p .num ≡ pos n) (some : 1 ≤ months
       by (made y i j m) t h u db du l g f z =
           let v = before-back end y b m in
           let x : monthIndex (y .at) ≡ monthIndex u = sym (back-index (y .at) (b .at) i v) ∙ on-index (b .at) u db g in
-          let near = same-month (y .at) u (date-yes (y .at) i) (date-yes u du) x in
+          let near = near-in-month (y .at) u (date-yes (y .at) i) (date-yes u du) x in
           let past = before-days end (y .at) (date-yes end de) (date-yes (y .at) i) j in
           omega arith
 

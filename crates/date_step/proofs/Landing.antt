@@ -10,18 +10,15 @@ use lib.Signed.{mag, ltZ, nonNeg, pos-natAbs}
 use mir.Syntax.{w32, w64}
 use mir.Val.{SFits, toZ, ofZ}
 use mir.Facts.{toZ-ofZ, toZ-pos}
-use borrow.Author.Tests.{ltb-true, ltb-false, lt-leb, lt-ltb, le-ltb}
+use borrow.Author.Tests.{ltb-true, ltb-false, lt-leb, lt-ltb}
 use Rattle.paper.proofs.Numbers.{widened}
 use Rattle.paper.specs.Outcome.{given, refused}
 use Rattle.date_step.specs.Steps.{landing}
 use Rattle.date_step.proofs.Steps.{lands-at}
 
--- a number and a signed one added: by the sign, and where it is negative by which is the greater
-pub sum-below : (a k : ℕ) → a ≤ k → pos a +ℤ negsuc k ≡ negsuc (k - a)
+-- a number and a negative one that is the greater
+sum-below : (a k : ℕ) → a ≤ k → pos a +ℤ negsuc k ≡ negsuc (k - a)
 sum-below a k h = rw (lt-ltb a (suc k) (omega arith)) (ap negsuc (omega arith))
-
-pub sum-above : (a k : ℕ) → k < a → pos a +ℤ negsuc k ≡ pos (a - suc k)
-sum-above a k h = rw (le-ltb a (suc k) h)
 
 module _ (last : ℕ) where
   -- below 0 there is no place

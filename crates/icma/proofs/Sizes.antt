@@ -1,14 +1,12 @@
 -- How large the parts are: a broken part is little more than a period, and the count is that of the calendar's months.
 -- Assumes nothing.
-use Prim.Native.Nat.{ℕ, zero, suc, _+_, _-_, _*_, _≤_, _<_}
+use Prim.Native.Nat.{ℕ, _+_, _-_, _*_, _≤_, _<_}
 use mathlib.Core.Path.{_≡_, refl, sym, _∙_, ap, subst}
-use mathlib.Core.Bool.{Bool, true, false, cond, true≢false}
+use mathlib.Core.Bool.{Bool, true, false, true≢false}
 use native.Mathlib.Omega.{arith}
 use native.Mathlib.Nat.{mul-le-mul-left, mul-add, mul-zero}
-use lib.Dec.{ltb}
-use lib.IntN.{ℤ, pos, negsuc, negℤ, natAbs, _+ℤ_, _-ℤ_, pos-ne-negsuc}
+use lib.IntN.{ℤ, pos, negℤ, natAbs, _-ℤ_}
 use lib.Signed.{ltZ}
-use borrow.Author.Tests.{ltb-true, ltb-false}
 use Rattle.paper.specs.Outcome.{given, andThen, pick}
 use Rattle.paper.proofs.Outcomes.{given-injective, then-given}
 use Rattle.rounding.proofs.Gap.{abs-gap}
@@ -31,7 +29,7 @@ use Rattle.gregorian.proofs.Months.{at-most}
 use Rattle.time_period.proofs.Steps.{months-step, years-step}
 use Rattle.time_period.proofs.Frequencies.{monthsIn}
 use Rattle.icma_walks.proofs.Walking.{LastTurn, none-made, made, last-turn, walk-keeps, walk-ends, ahead, behind, turn-on-leads, turn-back-leads, on-ends, back-ends}
-use Rattle.time_period.proofs.Signs.{negative-back}
+use Rattle.time_period.proofs.Signs.{negative-back, moved-by, moved-back-by}
 use Rattle.time_period.proofs.Steps.{step-later, step-earlier}
 
 -- two dates of one month are at most 30 days apart
@@ -41,17 +39,6 @@ near-in-month t u h k e =
     omega (arith, same-month t u h k (o .0) (o .1), h .day-to, k .day-from, at-most (t .year) (t .month))
 
 -- a step of n months or years moves the month's number by as many months, forward and back
-index-add : (a b n : ℕ) → pos a +ℤ pos n ≡ pos b → a + n ≡ b
-index-add a b n e = cc
-
-index-sub : (a b n : ℕ) → pos a +ℤ negℤ (pos n) ≡ pos b → b + n ≡ a
-index-sub a b zero e = let q : a + 0 ≡ b = cc in omega arith
-index-sub a b (suc n) e = by (ltb a (suc n)) (ltb-true a (suc n)) (ltb-false a (suc n)) e
-  where
-    by : (c : Bool) → (c ≡ true → a < suc n) → (c ≡ false → suc n ≤ a) → cond c (negsuc (suc n - suc a)) (pos (a - suc n)) ≡ pos b → b + suc n ≡ a
-    by true h k e = absurd (pos-ne-negsuc b (suc n - suc a) (sym e))
-    by false h k e = let q : a - suc n ≡ b = cc e in let l = k refl in omega arith
-
 years-index : (y z m : ℕ) (n : ℕ) → 1 ≤ y → y + n ≡ z → 12 * (y - 1) + m + 12 * n ≡ 12 * (z - 1) + m
 years-index y z m n h e = omega arith
 
@@ -59,10 +46,10 @@ unit-on : (u : TimePeriodUnit) (n : ℕ) (t v : Date) → isDate t ≡ true → 
 unit-on Daily n t v d h e = absurd (omega arith)
 unit-on BusinessDaily n t v d h e = absurd (omega arith)
 unit-on Weekly n t v d h e = absurd (omega arith)
-unit-on Monthly n t v d h e = index-add (monthIndex t) (monthIndex v) n (months-step (pos n) t v d e .index)
+unit-on Monthly n t v d h e = moved-by (monthIndex t) (monthIndex v) n (months-step (pos n) t v d e .index)
 unit-on Annual n t v d h e =
     let s = years-step (pos n) t v d e in
-    let y : t .year + n ≡ v .year = index-add (t .year) (v .year) n (s .year) in
+    let y : t .year + n ≡ v .year = moved-by (t .year) (v .year) n (s .year) in
     let m : v .month ≡ t .month = s .month in
     years-index (t .year) (v .year) (t .month - 1) n (s .from .year-from) y ∙ ap (λ (k : ℕ). 12 * (v .year - 1) + (k - 1)) (sym m)
 
@@ -70,10 +57,10 @@ unit-back : (u : TimePeriodUnit) (n : ℕ) (t v : Date) → isDate t ≡ true �
 unit-back Daily n t v d h e = absurd (omega arith)
 unit-back BusinessDaily n t v d h e = absurd (omega arith)
 unit-back Weekly n t v d h e = absurd (omega arith)
-unit-back Monthly n t v d h e = index-sub (monthIndex t) (monthIndex v) n (months-step (negℤ (pos n)) t v d e .index)
+unit-back Monthly n t v d h e = moved-back-by (monthIndex t) (monthIndex v) n (months-step (negℤ (pos n)) t v d e .index)
 unit-back Annual n t v d h e =
     let s = years-step (negℤ (pos n)) t v d e in
-    let y : v .year + n ≡ t .year = index-sub (t .year) (v .year) n (s .year) in
+    let y : v .year + n ≡ t .year = moved-back-by (t .year) (v .year) n (s .year) in
     let m : v .month ≡ t .month = s .month in
     years-index (v .year) (t .year) (v .month - 1) n (s .dated .year-from) y ∙ ap (λ (k : ℕ). 12 * (t .year - 1) + (k - 1)) m
 

@@ -1,8 +1,9 @@
 -- Dates and serial days: the bounds of a date, and that each is found again from the other.
 -- Assumes nothing.
 use Prim.Native.Nat.{ℕ, suc, _+_, _-_, _*_, _/_, _≤_, _<_}
-use mathlib.Core.Path.{_≡_, refl, sym, _∙_, ap}
-use mathlib.Core.Bool.{Bool, true, false}
+use mathlib.Core.Path.{_≡_, sym, _∙_, ap}
+use mathlib.Core.Bool.{true, false}
+use mathlib.Mathlib.Data.Bool.Basic.{eq-false-of-not-eq-true}
 use native.Mathlib.Omega.{arith}
 use borrow.Author.Tests.{le-leb, leb-true}
 use Rattle.paper.proofs.Numbers.{between}
@@ -47,11 +48,7 @@ date-is t h =
     )
 
 pub no-date : (t : Date) → (IsDate t → ⊥) → false ≡ isDate t
-no-date t h = by (isDate t) refl
-  where
-    by : (b : Bool) → isDate t ≡ b → false ≡ isDate t
-    by true e = absurd (h (date-yes t e))
-    by false e = sym e
+no-date t h = sym (eq-false-of-not-eq-true (λ e. h (date-yes t e)))
 
 pub day-yes : (d : Day) → isDay d ≡ true → (1 ≤ d .0) × (d .0 ≤ 3652059)
 unfolding isDay

@@ -3,6 +3,7 @@
 use Prim.Native.Nat.{ℕ, suc, _+_, _/_, _%_, _≤_, _<_, min}
 use mathlib.Core.Path.{_≡_, refl, sym, _∙_, ap}
 use mathlib.Core.Bool.{Bool, true, false}
+use mathlib.Mathlib.Data.Bool.Basic.{eq-true-of-not-eq-false, eq-false-of-not-eq-true}
 use native.Mathlib.Omega.{arith}
 use native.Mathlib.Decide.{decLt}
 use lib.Dec.{eqb, ltb}
@@ -36,10 +37,17 @@ module _ (t u : Date) (h : IsDate t) (k : IsDate u) where
         ap (λ (y : ℕ). beforeMonth y (u .month)) s,
       )
 
-  same-month : t .year ≡ u .year → t .month ≡ u .month → dayNumber t + u .day ≡ dayNumber u + t .day
+  -- in one month the days are as far apart as the serial days
+  pub same-month : t .year ≡ u .year → t .month ≡ u .month → dayNumber t + u .day ≡ dayNumber u + t .day
   unfolding dayNumber
   same-month s m =
       omega (arith, ap beforeYear s, ap (λ (y : ℕ). beforeMonth y (u .month)) s, ap (beforeMonth (t .year)) m)
+
+  -- a month's number tells its year and the month within it
+  pub one-month : monthIndex t ≡ monthIndex u → (t .year ≡ u .year) × (t .month ≡ u .month)
+  one-month e =
+      let y : t .year ≡ u .year = omega (arith, h .month-to, k .month-to, h .month-from, k .month-from, h .year-from, k .year-from) in
+      (y, omega (arith, h .month-from, k .month-from))
 
   -- a later month by its number: a later day
   pub month-order : monthIndex t < monthIndex u → dayNumber t < dayNumber u
@@ -79,18 +87,10 @@ not-before t u h k e = by (eqb (t .year) (u .year)) (eqb (t .month) (u .month)) 
         omega (arith, earlier-year u t k h l)
 
 pub days-before : (t u : Date) → IsDate t → IsDate u → dayNumber t < dayNumber u → isBefore t u ≡ true
-days-before t u h k l = by (isBefore t u) refl
-  where
-    by : (b : Bool) → isBefore t u ≡ b → isBefore t u ≡ true
-    by true e = e
-    by false e = absurd (omega (arith, not-before t u h k e))
+days-before t u h k l = eq-true-of-not-eq-false (λ e. omega (arith, not-before t u h k e))
 
 pub days-not-before : (t u : Date) → IsDate t → IsDate u → dayNumber u ≤ dayNumber t → isBefore t u ≡ false
-days-not-before t u h k l = by (isBefore t u) refl
-  where
-    by : (b : Bool) → isBefore t u ≡ b → isBefore t u ≡ false
-    by true e = absurd (omega (arith, before-days t u h k e))
-    by false e = e
+days-not-before t u h k l = eq-false-of-not-eq-true (λ e. omega (arith, before-days t u h k e))
 
 -- two dates of one serial day are one date
 pub same-day : (t u : Date) → IsDate t → IsDate u → dayNumber t ≡ dayNumber u → t ≡ u

@@ -4,24 +4,21 @@ use Prim.Native.Nat.{ℕ, suc, _+_, _-_, _^_, _≤_, _<_}
 use mathlib.Core.Path.{_≡_, refl, sym, _∙_, ap, ap₂, subst}
 use mathlib.Core.Bool.{Bool, true, false, cond, false≢true}
 use native.Mathlib.Omega.{arith}
-use lib.Dec.{T, leb, ltb}
+use lib.Dec.{T, ltb}
 use lib.IntN.{ℤ, pos, negsuc, _+ℤ_, natAbs}
-use lib.Signed.{mag, ltZ, nonNeg}
+use lib.Signed.{mag, ltZ, nonNeg, pos-natAbs}
 use mir.Syntax.{w32, w64}
 use mir.Val.{SFits, toZ, ofZ}
 use mir.Facts.{toZ-ofZ, toZ-pos}
-use borrow.Author.Tests.{ltb-true, ltb-false, le-leb, lt-leb, leb-true, lt-ltb, le-ltb}
+use borrow.Author.Tests.{ltb-true, ltb-false, lt-leb, lt-ltb}
 use Rattle.paper.proofs.Numbers.{widened}
 use Rattle.paper.specs.Outcome.{given, refused}
-use Rattle.paper.proofs.Outcomes.{given-injective, given-not-refused, unless-given}
 use Rattle.date_step.specs.Steps.{landing}
+use Rattle.date_step.proofs.Steps.{lands-at}
 
--- a number and a signed one added: by the sign, and where it is negative by which is the greater
-pub sum-below : (a k : ℕ) → a ≤ k → pos a +ℤ negsuc k ≡ negsuc (k - a)
+-- a number and a negative one that is the greater
+sum-below : (a k : ℕ) → a ≤ k → pos a +ℤ negsuc k ≡ negsuc (k - a)
 sum-below a k h = rw (lt-ltb a (suc k) (omega arith)) (ap negsuc (omega arith))
-
-pub sum-above : (a k : ℕ) → k < a → pos a +ℤ negsuc k ≡ pos (a - suc k)
-sum-above a k h = rw (le-ltb a (suc k) h)
 
 module _ (last : ℕ) where
   -- below 0 there is no place
@@ -36,24 +33,12 @@ module _ (last : ℕ) where
   beyond (pos k) e = rw (lt-leb k last (ltb-true last k e))
   beyond (negsuc k) e = absurd (false≢true e)
 
-  pub lands : (z : ℤ) → T (nonNeg z) → ltZ (pos last) z ≡ false → given (natAbs z) ≡ landing last z
-  unfolding landing
-  lands (pos k) t e = rw (le-leb k last (ltb-false last k e))
-  lands (negsuc k) t e = absurd t
-
   pub within : (z : ℤ) → T (nonNeg z) → ltZ (pos last) z ≡ false → natAbs z ≤ last
   within (pos k) t e = ltb-false last k e
   within (negsuc k) t e = absurd t
 
-  -- what is reached lies up to the last
-  pub landed-to : (z : ℤ) (i : ℕ) → given i ≡ landing last z → i ≤ last
-  unfolding landing
-  landed-to (pos k) i e =
-      let u = unless-given (leb k last) 1 (given k) i (sym e) in
-      let l : k ≤ last = leb-true k last (u .0) in
-      let q : k ≡ i = given-injective (u .1) in
-      omega arith
-  landed-to (negsuc k) i e = absurd (given-not-refused e)
+  pub lands : (z : ℤ) → T (nonNeg z) → ltZ (pos last) z ≡ false → given (natAbs z) ≡ landing last z
+  lands z t e = sym (lands-at last (natAbs z) (within z t e)) ∙ ap (landing last) (pos-natAbs z t)
 
   -- a move of more than the whole calendar leads out of it
   module _ (a most : ℕ) (ha : a ≤ most) (hl : last ≤ most) where

@@ -1,6 +1,6 @@
 -- What a step of months, years or days leads to.
 -- Assumes nothing.
-use Prim.Native.Nat.{ℕ, zero, suc, _+_, _-_, _≤_, _<_, min}
+use Prim.Native.Nat.{ℕ, zero, suc, _-_, _≤_, _<_, min}
 use mathlib.Core.Path.{_≡_, refl, sym, _∙_, ap, subst}
 use mathlib.Core.Bool.{true}
 use native.Mathlib.Omega.{arith}
@@ -14,10 +14,10 @@ use Rattle.gregorian.specs.Gregorian.{monthLength}
 use Rattle.calendar.specs.Dates.{isDate, isDay, dayNumber, theDate, monthIndex, monthDate}
 use Rattle.calendar.specs.Answers.{dateOf}
 use Rattle.date_step.specs.Steps.{landing, monthsLater, addMonths, existingDate, yearsLater, addYears, daysLater, addDays}
-use Rattle.calendar.specs.declared.Day.{Day}
 use Rattle.calendar.specs.declared.Date.{Date}
-use Rattle.calendar.proofs.Dates.{IsDate, date-yes, day-yes, the-date-is, number-found}
-use Rattle.calendar.proofs.Order.{InMonth, month-date, month-order}
+use Rattle.calendar.proofs.Dates.{IsDate, date-yes}
+use Rattle.calendar.proofs.Inverse.{on-day}
+use Rattle.calendar.proofs.Order.{InMonth, month-date}
 
 -- what was reached is the number moved to
 pub landed : (last : ℕ) (z : ℤ) (i : ℕ) → landing last z ≡ given i → (z ≡ pos i) × (i ≤ last)
@@ -51,19 +51,13 @@ months-on t n u e =
     record { from = h; dated = i .dated; index = l .0 ∙ ap pos (sym (i .index)); cut = i .cut }
 
 -- and every month of the calendar is reached
-pub months-reach : (t : Date) (n : ℤ) (i : ℕ) → isDate t ≡ true → pos (monthIndex t) +ℤ n ≡ pos i → i ≤ 119987 → addMonths t n ≡ given (monthDate i (t .day))
-unfolding addMonths monthsLater
-months-reach t n i d e h = rw (d, e, lands-at 119987 i h)
+pub months-to : (t : Date) (n : ℤ) (i : ℕ) → pos (monthIndex t) +ℤ n ≡ pos i → i ≤ 119987 → monthsLater t n ≡ given (monthDate i (t .day))
+unfolding monthsLater
+months-to t n i e h = rw (e, lands-at 119987 i h)
 
--- a positive number of months leads to a later day
-pub months-later-day : (t : Date) (n : ℕ) (u : Date) → 1 ≤ n → addMonths t (pos n) ≡ given u → dayNumber t < dayNumber u
-months-later-day t n u h e =
-    let m = months-on t (pos n) u e in
-    let i : monthIndex t + n ≡ monthIndex u = pos-injective (m .index) in
-    month-order t u (m .from) (m .dated) (omega arith)
-  where
-    pos-injective : {a b : ℕ} → pos a ≡ pos b → a ≡ b
-    pos-injective e = cc
+pub months-reach : (t : Date) (n : ℤ) (i : ℕ) → isDate t ≡ true → pos (monthIndex t) +ℤ n ≡ pos i → i ≤ 119987 → addMonths t n ≡ given (monthDate i (t .day))
+unfolding addMonths
+months-reach t n i d e h = rw d (months-to t n i e h)
 
 -- n years on: the same month and day
 pub record YearsOn (t : Date) (n : ℤ) (u : Date) : Type 0 where
@@ -116,17 +110,10 @@ pub record DaysOn (t : Date) (n : ℤ) (u : Date) : Type 0 where
   pub number : pos (dayNumber t) +ℤ n ≡ pos (dayNumber u)
 
 pub days-on : (t : Date) (n : ℤ) (u : Date) → addDays t n ≡ given u → DaysOn t n u
-unfolding addDays daysLater dateOf
+unfolding addDays daysLater
 days-on t n u e =
     let g = unless-given (isDate t) 1 _ u e in
     let m = then-given (landing 3652059 (pos (dayNumber t) +ℤ n)) (λ k. dateOf (record { 0 = k })) u (g .1) in
     let l = landed 3652059 (pos (dayNumber t) +ℤ n) (m .0) (m .1) in
-    let d : Day = record { 0 = m .0 } in
-    let x = unless-given (isDay d) 1 (given (theDate (m .0))) u (m .2) in
-    let k = day-yes d (x .0) in
-    let q : theDate (m .0) ≡ u = given-injective (x .1) in
-    record {
-      from = date-yes t (g .0);
-      dated = subst IsDate q (the-date-is (m .0) (k .0) (k .1));
-      number = l .0 ∙ ap pos (sym (number-found (m .0) (k .0) (k .1)) ∙ ap dayNumber q);
-    }
+    let d = on-day (record { 0 = m .0 }) u (m .2) in
+    record { from = date-yes t (g .0); dated = d .0; number = l .0 ∙ ap pos (sym (d .1)) }

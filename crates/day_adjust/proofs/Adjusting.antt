@@ -1,17 +1,17 @@
 -- The laws of adjustment: none leaves every date, and what the other rules give is a business day on its side.
 -- Assumes nothing.
-use Prim.Native.Nat.{ℕ, _≤_, _<_}
+use Prim.Native.Nat.{ℕ, _<_}
 use mathlib.Core.Path.{_≡_, refl, sym, _∙_, ap, subst}
 use mathlib.Core.Bool.{Bool, true, false}
 use mathlib.Core.List.{List}
 use lib.Dec.{eqb}
 use Rattle.paper.specs.Outcome.{given, pick}
-use Rattle.paper.proofs.Outcomes.{given-injective, then-given, unless-given}
-use Rattle.calendar.specs.Dates.{isDate, isDay, dayNumber, theDate}
+use Rattle.paper.proofs.Outcomes.{given-injective, then-given}
+use Rattle.calendar.specs.Dates.{isDate, dayNumber}
 use Rattle.calendar.specs.Answers.{dateOf}
 use Rattle.calendar.specs.declared.Date.{Date}
-use Rattle.calendar.specs.declared.Day.{Day}
-use Rattle.calendar.proofs.Dates.{IsDate, date-yes, day-yes, day-is, number-from, number-to, the-date-is, number-found}
+use Rattle.calendar.proofs.Dates.{IsDate, date-yes, number-from, number-to}
+use Rattle.calendar.proofs.Inverse.{on-day}
 use Rattle.holidays.specs.Table.{ascending}
 use Rattle.holidays.specs.Search.{Judged}
 use Rattle.holidays.specs.Business.{isBusiness, nextFrom, prevFrom}
@@ -47,24 +47,10 @@ module _ (t : Date) (n : ℕ) (table : List ℕ) (own : n ≡ dayNumber t) where
   unfolding adjusted
   shut-moves r b = rw (ap (isBusiness table) (sym own) ∙ b) (ap (λ (x : ℕ). movedDate r t x table) own)
 
--- the date of a day of the calendar
-pub date-on-day : (d : Day) → 1 ≤ d .0 → d .0 ≤ 3652059 → given (theDate (d .0)) ≡ dateOf d
-unfolding dateOf
-date-on-day d h k = rw (day-is d h k)
-
 -- what a search gives is the date of the business day it found
 pub record Moved (table : List ℕ) (u : Date) : Type 0 where
   pub dated : IsDate u
   pub business : isBusiness table (dayNumber u) ≡ true
-
--- and back
-on-day : (d : Day) (u : Date) → dateOf d ≡ given u → IsDate u × (dayNumber u ≡ d .0)
-unfolding dateOf
-on-day d u e =
-    let g = unless-given (isDay d) 1 (given (theDate (d .0))) u e in
-    let k = day-yes d (g .0) in
-    let q : theDate (d .0) ≡ u = given-injective (g .1) in
-    (subst IsDate q (the-date-is (d .0) (k .0) (k .1)), ap dayNumber (sym q) ∙ number-found (d .0) (k .0) (k .1))
 
 module _ (table : List ℕ) (n : ℕ) (u : Date) where
   pub next-date-gives : nextDate table n ≡ given u → Moved table u × (n < dayNumber u)

@@ -1,14 +1,14 @@
 -- Two dates of which the first is not after the second: how their years, months and days stand to each other.
 -- Assumes nothing.
 use mathlib.Core.Path.{_≡_, ap}
-use Prim.Native.Nat.{ℕ, _+_, _-_, _≤_, _<_}
+use Prim.Native.Nat.{_+_, _-_, _≤_, _<_}
 use native.Mathlib.Omega.{arith}
 use Rattle.gregorian.specs.Gregorian.{yearLength, beforeYear, beforeMonth}
 use Rattle.gregorian.proofs.Months.{before-first, at-most}
 use Rattle.calendar.specs.Dates.{dayNumber, monthIndex}
 use Rattle.calendar.specs.declared.Date.{Date}
 use Rattle.calendar.proofs.Dates.{IsDate, within-year}
-use Rattle.calendar.proofs.Order.{month-order}
+use Rattle.calendar.proofs.Order.{same-month, month-order}
 use Rattle.day_fraction.specs.Fractions.{sinceJanuary}
 
 -- the days since 1 January are those before the month and those before the day
@@ -40,5 +40,5 @@ in-order s e h k l =
       years = omega (arith, m, h .month-from, k .month-from, h .month-to, k .month-to, h .year-from, k .year-from);
       months = m;
       in-year = λ y. omega (arith, since-is s h, since-is e k, ap beforeYear y, h .day-from, k .day-from);
-      in-month = λ y n. omega (arith, ap beforeYear y, ap (λ (x : ℕ). beforeMonth x (e .month)) y, ap (beforeMonth (s .year)) n);
+      in-month = λ y n. omega (arith, same-month s e h k y n);
     }

@@ -11,6 +11,7 @@ use Rattle.gregorian.specs.Gregorian.{yearLength}
 use Rattle.calendar.specs.Dates.{dayNumber, monthIndex}
 use Rattle.calendar.specs.declared.Date.{Date}
 use Rattle.calendar.proofs.Dates.{IsDate}
+use Rattle.calendar.proofs.Order.{one-month}
 use Rattle.rounding.proofs.Integers.{plus, minus, Diff, of-int, diff-add, diff-sub, diff-scale, diff-lscale}
 use Rattle.rounding.proofs.Near.{Near}
 use Rattle.day_fraction.specs.Exact.{Exact, difference}
@@ -70,11 +71,8 @@ pub record Sized (x : Float) (q : Exact) : Type 0 where
 
 module _ (s e : Date) (h : IsDate s) (k : IsDate e) (l : dayNumber s ≤ dayNumber e) where
   -- where the end has no later month, the two have one month
-  one-month : (monthIndex s < monthIndex e → ⊥) → (s .year ≡ e .year) × (s .month ≡ e .month)
-  one-month n =
-      let i : monthIndex s ≡ monthIndex e = omega (arith, n, in-order s e h k l .months) in
-      let y : s .year ≡ e .year = omega arith in
-      (y, omega arith)
+  no-later-month : (monthIndex s < monthIndex e → ⊥) → (s .year ≡ e .year) × (s .month ≡ e .month)
+  no-later-month n = one-month s e h k (omega (arith, n, in-order s e h k l .months))
 
   -- in one month the days decide, and a later month is 30 days for at most 29 of the start's
   pub thirties-up : (a b : ℕ) → Adjusted (s .day) (e .day) a b → thirtyCount s a ≤ thirtyCount e b
@@ -82,7 +80,7 @@ module _ (s e : Date) (h : IsDate s) (k : IsDate e) (l : dayNumber s ≤ dayNumb
     where
       by : Dec (monthIndex s < monthIndex e) → thirtyCount s a ≤ thirtyCount e b
       by (yes i) = omega arith
-      by (no i) = let o = one-month i in omega (arith, A .kept (in-order s e h k l .in-month (o .0) (o .1)))
+      by (no i) = let o = no-later-month i in omega (arith, A .kept (in-order s e h k l .in-month (o .0) (o .1)))
 
   -- the two are equal only where the dates have one month, and one adjusted day
   pub thirties-same : (a b : ℕ) → Adjusted (s .day) (e .day) a b → thirtyCount s a ≡ thirtyCount e b → (s .year ≡ e .year) × (s .month ≡ e .month) × (a ≡ b)
@@ -90,7 +88,7 @@ module _ (s e : Date) (h : IsDate s) (k : IsDate e) (l : dayNumber s ≤ dayNumb
     where
       by : Dec (monthIndex s < monthIndex e) → (s .year ≡ e .year) × (s .month ≡ e .month) × (a ≡ b)
       by (yes i) = absurd (omega arith)
-      by (no i) = let o = one-month i in (o .0, o .1, omega arith)
+      by (no i) = let o = no-later-month i in (o .0, o .1, omega arith)
 
   up : (rule : SimpleRule) → exactFraction rule s e .num ≡ pos (plus (exactFraction rule s e .num))
   unfolding exactFraction

@@ -1,22 +1,19 @@
 -- How large the parts are: a broken part is little more than a period, and the count is that of the calendar's months.
 -- Assumes nothing.
-use Prim.Native.Nat.{ℕ, zero, suc, _+_, _-_, _*_, _≤_, _<_}
+use Prim.Native.Nat.{ℕ, _+_, _-_, _*_, _≤_, _<_}
 use mathlib.Core.Path.{_≡_, refl, sym, _∙_, ap, subst}
-use mathlib.Core.Bool.{Bool, true, false, cond, true≢false}
+use mathlib.Core.Bool.{Bool, true, false, true≢false}
 use native.Mathlib.Omega.{arith}
 use native.Mathlib.Nat.{mul-le-mul-left, mul-add, mul-zero}
-use lib.Dec.{ltb}
-use lib.IntN.{ℤ, pos, negsuc, negℤ, natAbs, _+ℤ_, _-ℤ_, pos-ne-negsuc}
+use lib.IntN.{ℤ, pos, negℤ, natAbs, _-ℤ_}
 use lib.Signed.{ltZ}
-use borrow.Author.Tests.{ltb-true, ltb-false}
 use Rattle.paper.specs.Outcome.{given, andThen, pick}
 use Rattle.paper.proofs.Outcomes.{given-injective, then-given}
 use Rattle.rounding.proofs.Gap.{abs-gap}
 use Rattle.calendar.specs.Dates.{isDate, isBefore, dayNumber, monthIndex}
 use Rattle.calendar.specs.declared.Date.{Date}
 use Rattle.calendar.proofs.Dates.{IsDate, date-yes, number-to}
-use Rattle.calendar.proofs.Order.{before-days, index-to}
-use Rattle.gregorian.specs.Gregorian.{beforeYear, beforeMonth}
+use Rattle.calendar.proofs.Order.{same-month, one-month, before-days, index-to}
 use Rattle.time_period.specs.Steps.{absent, unitStep}
 use Rattle.icma_walks.specs.Walks.{from}
 use Rattle.icma.specs.Walk.{step, negated, walk, turnOn, walkOn, turnBack, walkBack, baseFrom, shortParts, firstPart, lastPart, toLast, toEnd, toFirst, longParts, partsFrom, icmaParts}
@@ -32,37 +29,16 @@ use Rattle.gregorian.proofs.Months.{at-most}
 use Rattle.time_period.proofs.Steps.{months-step, years-step}
 use Rattle.time_period.proofs.Frequencies.{monthsIn}
 use Rattle.icma_walks.proofs.Walking.{LastTurn, none-made, made, last-turn, walk-keeps, walk-ends, ahead, behind, turn-on-leads, turn-back-leads, on-ends, back-ends}
-use Rattle.time_period.proofs.Signs.{negative-back}
+use Rattle.time_period.proofs.Signs.{negative-back, moved-by, moved-back-by}
 use Rattle.time_period.proofs.Steps.{step-later, step-earlier}
 
 -- two dates of one month are at most 30 days apart
-same-month : (t u : Date) → IsDate t → IsDate u → monthIndex t ≡ monthIndex u → dayNumber t ≤ dayNumber u + 30
-unfolding dayNumber
-same-month t u h k e =
-    let y : t .year ≡ u .year = omega (arith, h .month-to, k .month-to, h .month-from, k .month-from, h .year-from, k .year-from) in
-    let m : t .month ≡ u .month = omega (arith, h .month-to, k .month-to, h .month-from, k .month-from) in
-    omega (
-      arith,
-      ap beforeYear y,
-      ap (λ (x : ℕ). beforeMonth x (u .month)) y,
-      ap (beforeMonth (t .year)) m,
-      h .day-to,
-      k .day-from,
-      at-most (t .year) (t .month),
-    )
+near-in-month : (t u : Date) → IsDate t → IsDate u → monthIndex t ≡ monthIndex u → dayNumber t ≤ dayNumber u + 30
+near-in-month t u h k e =
+    let o = one-month t u h k e in
+    omega (arith, same-month t u h k (o .0) (o .1), h .day-to, k .day-from, at-most (t .year) (t .month))
 
 -- a step of n months or years moves the month's number by as many months, forward and back
-index-add : (a b n : ℕ) → pos a +ℤ pos n ≡ pos b → a + n ≡ b
-index-add a b n e = cc
-
-index-sub : (a b n : ℕ) → pos a +ℤ negℤ (pos n) ≡ pos b → b + n ≡ a
-index-sub a b zero e = let q : a + 0 ≡ b = cc in omega arith
-index-sub a b (suc n) e = by (ltb a (suc n)) (ltb-true a (suc n)) (ltb-false a (suc n)) e
-  where
-    by : (c : Bool) → (c ≡ true → a < suc n) → (c ≡ false → suc n ≤ a) → cond c (negsuc (suc n - suc a)) (pos (a - suc n)) ≡ pos b → b + suc n ≡ a
-    by true h k e = absurd (pos-ne-negsuc b (suc n - suc a) (sym e))
-    by false h k e = let q : a - suc n ≡ b = cc e in let l = k refl in omega arith
-
 years-index : (y z m : ℕ) (n : ℕ) → 1 ≤ y → y + n ≡ z → 12 * (y - 1) + m + 12 * n ≡ 12 * (z - 1) + m
 years-index y z m n h e = omega arith
 
@@ -70,10 +46,10 @@ unit-on : (u : TimePeriodUnit) (n : ℕ) (t v : Date) → isDate t ≡ true → 
 unit-on Daily n t v d h e = absurd (omega arith)
 unit-on BusinessDaily n t v d h e = absurd (omega arith)
 unit-on Weekly n t v d h e = absurd (omega arith)
-unit-on Monthly n t v d h e = index-add (monthIndex t) (monthIndex v) n (months-step (pos n) t v d e .index)
+unit-on Monthly n t v d h e = moved-by (monthIndex t) (monthIndex v) n (months-step (pos n) t v d e .index)
 unit-on Annual n t v d h e =
     let s = years-step (pos n) t v d e in
-    let y : t .year + n ≡ v .year = index-add (t .year) (v .year) n (s .year) in
+    let y : t .year + n ≡ v .year = moved-by (t .year) (v .year) n (s .year) in
     let m : v .month ≡ t .month = s .month in
     years-index (t .year) (v .year) (t .month - 1) n (s .from .year-from) y ∙ ap (λ (k : ℕ). 12 * (v .year - 1) + (k - 1)) (sym m)
 
@@ -81,10 +57,10 @@ unit-back : (u : TimePeriodUnit) (n : ℕ) (t v : Date) → isDate t ≡ true �
 unit-back Daily n t v d h e = absurd (omega arith)
 unit-back BusinessDaily n t v d h e = absurd (omega arith)
 unit-back Weekly n t v d h e = absurd (omega arith)
-unit-back Monthly n t v d h e = index-sub (monthIndex t) (monthIndex v) n (months-step (negℤ (pos n)) t v d e .index)
+unit-back Monthly n t v d h e = moved-back-by (monthIndex t) (monthIndex v) n (months-step (negℤ (pos n)) t v d e .index)
 unit-back Annual n t v d h e =
     let s = years-step (negℤ (pos n)) t v d e in
-    let y : v .year + n ≡ t .year = index-sub (t .year) (v .year) n (s .year) in
+    let y : v .year + n ≡ t .year = moved-back-by (t .year) (v .year) n (s .year) in
     let m : v .month ≡ t .month = s .month in
     years-index (v .year) (t .year) (v .month - 1) n (s .dated .year-from) y ∙ ap (λ (k : ℕ). 12 * (t .year - 1) + (k - 1)) m
 
@@ -161,7 +137,7 @@ module _ (p : TimePeriod) (n : ℕ) (is : p .num ≡ pos n) (some : 1 ≤ months
           let y = past-back start base b db h k w in
           let s = step-later p (b .at) u (end .0 .dated) above (g .1) in
           let i : monthIndex (y .0) ≡ monthIndex u = sym (back-index (y .0) (b .at) (y .1) (y .3)) ∙ on-index (b .at) u (end .0 .dated) (g .1) in
-          let near = same-month (y .0) u (date-yes (y .0) (y .1)) (date-yes u (s .0)) i in
+          let near = near-in-month (y .0) u (date-yes (y .0) (y .1)) (date-yes u (s .0)) i in
           let past = before-days start (y .0) (date-yes start ds) (date-yes (y .0) (y .1)) (y .2) in
           let first = before-days (b .at) start (date-yes (b .at) (end .0 .dated)) (date-yes start ds) k in
           subst BrokenSize (given-injective (g .2))
@@ -180,7 +156,7 @@ module _ (p : TimePeriod) (n : ℕ) (is : p .num ≡ pos n) (some : 1 ≤ months
           let y = past-on end base v db h k w in
           let s = step-earlier (negated p) (v .at) u (stop .0 .dated) below (g .1) in
           let i : monthIndex u + monthsIn (p .unit) n ≡ monthIndex (y .0) + monthsIn (p .unit) n = back-index (v .at) u (stop .0 .dated) (g .1) ∙ sym (on-index (y .0) (v .at) (y .1) (y .3)) in
-          let near = same-month u (y .0) (date-yes u (s .0)) (date-yes (y .0) (y .1)) (omega arith) in
+          let near = near-in-month u (y .0) (date-yes u (s .0)) (date-yes (y .0) (y .1)) (omega arith) in
           let past = before-days (y .0) end (date-yes (y .0) (y .1)) (date-yes end ds) (y .2) in
           let last = before-days end (v .at) (date-yes end ds) (date-yes (v .at) (stop .0 .dated)) k in
           let f = number-to (v .at) (date-yes (v .at) (stop .0 .dated)) in
@@ -211,7 +187,7 @@ module _ (p : TimePeriod) (n : ℕ) (is : p .num ≡ pos n) (some : 1 ≤ months
       by (made y i j m) t h u db du l g f z =
           let v = before-back end y b m in
           let x : monthIndex (y .at) ≡ monthIndex u = sym (back-index (y .at) (b .at) i v) ∙ on-index (b .at) u db g in
-          let near = same-month (y .at) u (date-yes (y .at) i) (date-yes u du) x in
+          let near = near-in-month (y .at) u (date-yes (y .at) i) (date-yes u du) x in
           let past = before-days end (y .at) (date-yes end de) (date-yes (y .at) i) j in
           omega arith
 

@@ -2,9 +2,9 @@
 -- Assumes nothing.
 use Prim.Native.Nat.{_^_, _<_}
 use mathlib.Core.Path.{_≡_, sym, _∙_, ap, subst}
-use mathlib.Core.Bool.{true, false≢true}
+use mathlib.Core.Bool.{true}
 use native.Mathlib.Omega.{arith}
-use lib.IntN.{ℤ, pos, negsuc, _-ℤ_}
+use lib.IntN.{ℤ, pos, _-ℤ_}
 use lib.Signed.{ltZ}
 use mir.Syntax.{w32}
 use mir.Val.{SFits, toZ, ofZ}
@@ -28,11 +28,6 @@ gap-kept t u z d e q =
     let k : dayNumber u < 2 ^ 31 = omega (arith, number-to u (date-yes u e)) in
     let f = gap-fits (dayNumber t) (dayNumber u) h k in
     ap (λ (x : ℤ). toZ w32 (ofZ w32 x)) q ∙ toZ-ofZ (subst (SFits w32) (sym (toZ-ofZ f) ∙ gap-is (dayNumber t) (dayNumber u) h k) f)
-
--- a number above zero is not the least
-pub not-the-least : (z : ℤ) → SFits w32 z → ltZ (pos 0) z ≡ true → ofZ w32 z ≡ 2147483648 → ⊥
-not-the-least (pos n) f h e = omega (arith, f .sfits)
-not-the-least (negsuc n) f h e = false≢true h
 
 -- the base is a date of the calendar
 pub base-ends : (p : TimePeriod) (start end roll : Date) (w : Walked) → isDate roll ≡ true → ltZ (pos 0) (p .num) ≡ true → baseFrom p (negated p) start end roll ≡ given w → isDate (w .at) ≡ true

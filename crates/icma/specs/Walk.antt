@@ -1,13 +1,14 @@
 -- Act/Act ICMA walks from the roll date: the whole periods and the broken parts between start and end. The walks are those of `icma_walks`.
 -- Assumes nothing.
 use Prim.Native.Nat.{ℕ, _+_, _-_}
-use lib.IntN.{pos, negℤ, _-ℤ_}
+use lib.IntN.{pos, _-ℤ_}
 use Rattle.paper.specs.Outcome.{Outcome, given, refused, andThen, pick}
 use Rattle.calendar.specs.Dates.{isBefore, dayNumber}
 use Rattle.calendar.specs.declared.Date.{Date}
 use Rattle.time_period.specs.declared.TimePeriod.{TimePeriod}
 unfoldable pub use Rattle.icma_walks.specs.Walks.{turnOn, walkOn, turnBack, walkBack, baseFrom}
 pub use Rattle.icma_walks.specs.Walks.{step, walk}
+pub use Rattle.time_period.specs.Steps.{negated}
 use Rattle.icma_walks.specs.declared.Walked.{Walked}
 use Rattle.icma.specs.declared.Broken.{Broken}
 use Rattle.icma.specs.declared.Broken.the-variants.{Nothing, Part}
@@ -26,10 +27,6 @@ brokenOutcome (broken-answer.Refused n) = refused n
 abbrev pub partsOutcome : PartsAnswer → Outcome Parts
 partsOutcome (parts-answer.Parts p) = given p
 partsOutcome (parts-answer.Refused n) = refused n
-
--- a period that leads back
-abbrev pub negated : TimePeriod → TimePeriod
-negated p = record { num = negℤ (p .num); unit = p .unit }
 
 -- the walks from the roll date (`baseFrom`) ended before start: the days, over the length of the period from there
 unfoldable pub shortParts : TimePeriod → Date → Date → Date → Outcome Parts

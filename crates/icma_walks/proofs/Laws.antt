@@ -5,7 +5,7 @@ use mathlib.Core.Path.{_≡_, refl, _∙_, ap₂}
 use mathlib.Core.Bool.{true}
 use native.Mathlib.Omega.{arith}
 use native.Mathlib.Nat.{suc-mul}
-use lib.IntN.{ℤ, pos, _+ℤ_}
+use lib.IntN.{pos}
 use Rattle.paper.specs.Outcome.{Outcome, given, andThen}
 use Rattle.gregorian.proofs.Months.{at-least}
 use Rattle.calendar.specs.Dates.{isDate, monthIndex, monthDate}
@@ -13,7 +13,7 @@ use Rattle.calendar.specs.declared.Date.{Date}
 use Rattle.calendar.proofs.Dates.{date-yes, date-is}
 use Rattle.calendar.proofs.Order.{month-date}
 use Rattle.date_step.specs.Steps.{monthsLater}
-use Rattle.date_step.proofs.Steps.{lands-at}
+use Rattle.date_step.proofs.Steps.{months-to}
 
 -- k steps, one after another
 pub steps : ℕ → (Date → Outcome Date) → Date → Outcome Date
@@ -24,11 +24,6 @@ steps (suc k) go t = andThen (go t) (steps k go)
 pub uncut : (i d : ℕ) → 1 ≤ d → d ≤ 28 → i ≤ 119987 → monthDate i d .day ≡ d
 unfolding monthDate
 uncut i d h k l = omega (arith, at-least (i / 12 + 1) (i % 12 + 1) (omega arith) (omega arith))
-
--- a step of months, on or back, to a month of the calendar
-pub months-to : (t : Date) (z : ℤ) (i : ℕ) → pos (monthIndex t) +ℤ z ≡ pos i → i ≤ 119987 → monthsLater t z ≡ given (monthDate i (t .day))
-unfolding monthsLater
-months-to t z i q l = rw (q, lands-at 119987 i l)
 
 one-uncut : (n : ℕ) (t : Date) → monthIndex t + n ≤ 119987 → monthsLater t (pos n) ≡ given (monthDate (monthIndex t + n) (t .day))
 one-uncut n t h = months-to t (pos n) (monthIndex t + n) refl h

@@ -25,7 +25,8 @@ use Rattle.icma_walks.specs.Leaps.{isMonths, isUncut, leapOn, leapBack}
 use Rattle.icma_walks.specs.declared.Walked.{Walked}
 use Rattle.time_period.proofs.Signs.{above}
 use Rattle.icma_walks.proofs.Walking.{Turned, ahead, ahead-is, behind, behind-is, turn-on-leads, turn-back-leads, walk-on-turn}
-use Rattle.icma_walks.proofs.Laws.{uncut, months-to}
+use Rattle.date_step.proofs.Steps.{months-to}
+use Rattle.icma_walks.proofs.Laws.{uncut}
 
 -- a walk that stands at w is the walk from t, and has counted no more than the days it passed
 pub record OnTheWay (more : Date → Bool) (turn : Walked → Outcome Walked) (φ : Date → ℕ) (t : Date) (w : Walked) : Type 0 where

@@ -8,15 +8,15 @@ use lib.IntN.{ℤ, pos}
 use lib.Ieee.{Float, binary64, add, mul}
 use lib.Ieee.Scale.{finite}
 use borrow.Author.Tests.{leb-true, eqb-true}
-use Rattle.paper.specs.Outcome.{given, both, pick}
+use Rattle.paper.specs.Outcome.{given, value, both, pick}
 use Rattle.paper.proofs.Outcomes.{both-true}
-use Rattle.calendar.specs.Answers.{dateOf}
 use Rattle.calendar.specs.Dates.{isDate, dayNumber, theDate}
 use Rattle.calendar.specs.declared.Date.{Date}
-use Rattle.calendar.proofs.Dates.{date-yes, date-is, day-is, number-from, number-found, the-date-is}
+use Rattle.calendar.proofs.Dates.{date-yes, date-is, number-from, number-found, the-date-is}
+use Rattle.calendar.proofs.Inverse.{date-on-day}
 use Rattle.cash_amount.specs.Amounts.{isCurrency, isSameCurrency}
 use Rattle.cash_amount.specs.declared.Currency.{Currency}
-use Rattle.cash_flow.specs.Flows.{dateOn}
+use Rattle.cash_flow.specs.Flows.{noDate, dateOn}
 use Rattle.day_fraction.specs.Fractions.{Span, over, days, bits, impossible}
 use Rattle.day_fraction.proofs.Differences.{diff-of, diff-pos}
 use Rattle.day_count_conv.specs.Conventions.{inBits, none, simpleFraction}
@@ -44,8 +44,8 @@ unfolding isOneCurrency
 one-currency a b c s = rw (c, sym (ap isCurrency (same-currency a b s)) ∙ c, s)
 
 date-on : (n : ℕ) → 1 ≤ n → n ≤ 3652059 → dateOn n ≡ theDate n
-unfolding dateOn dateOf
-date-on n h k = rw (day-is (record { 0 = n }) h k)
+unfolding dateOn
+date-on n h k = ap (value noDate) (sym (date-on-day (record { 0 = n }) h k))
 
 days-over : (rule : DayCountConv) (s e : Date) → 1 ≤ yearDays rule → Span s e → fractionTo rule s e ≡ given (over (days s e) (yearDays rule))
 unfolding fractionTo simpleFraction impossible bits

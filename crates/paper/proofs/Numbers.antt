@@ -7,12 +7,12 @@ use native.Mathlib.Nat.{one-mul, mod-eq-of-lt, pow-suc, div-div-eq-div-mul}
 use native.Mathlib.Omega.{arith}
 use lib.Dec.{T, leb, ltb}
 use lib.Ieee.{Float, nan, inf, fin, ne, isNan}
-use lib.IntN.{ℤ, pos, negsuc, negℤ}
+use lib.IntN.{ℤ, pos, negsuc, negℤ, _-ℤ_, +ℤ-idl}
 use lib.Pow.{pow-lt}
 use lib.Signed.{ltZ, leZ, mag}
-use mir.Syntax.{w32, w64}
-use mir.Val.{SFits, toZ, ofZ}
-use mir.Facts.{toZ-ofZ, sfits-widen}
+use mir.Syntax.{Width, w32, w64}
+use mir.Val.{SFits, hbits, toZ, ofZ}
+use mir.Facts.{toZ-ofZ, toZ-pos, sfits-widen}
 use borrow.Author.Tests.{not-true, lt-leb, le-leb, leb-true, lt-ltb, le-ltb}
 use Rattle.paper.specs.Outcome.{both}
 use Rattle.paper.proofs.Outcomes.{both-true}
@@ -61,7 +61,11 @@ not-at-most a b e = at-most-is a b ∙ ap not e
 pub not-below : (a b : ℤ) → leZ b a ≡ true → ltZ a b ≡ false
 not-below a b e = not-true (ltZ a b) (sym (at-most-is a b) ∙ e)
 
--- a magnitude taken from zero fits the width that it is at most the half of
+-- a magnitude that a width's positive numbers have, taken from zero
+pub taken-from-zero : (w : Width) (v : ℕ) → v < 2 ^ hbits w → pos 0 -ℤ toZ w v ≡ negℤ (pos v)
+taken-from-zero w v h = rw (toZ-pos w {n = v} h) (+ℤ-idl (negℤ (pos v)))
+
+-- it fits the width that it is at most the half of
 pub mag-minus : (v c : ℕ) → 0 < c → v ≤ c → mag (negℤ (pos v)) < c
 mag-minus zero c p h = p
 mag-minus (suc v) c p h = h

@@ -1,16 +1,16 @@
 -- What an added and a subtracted period lead to.
 -- Assumes nothing.
-use mathlib.Core.Path.{_≡_, refl, sym, _∙_}
-use mathlib.Core.Bool.{true, false, false≢true}
-use lib.IntN.{ℤ, pos, negsuc, negℤ}
+use mathlib.Core.Path.{_≡_, sym, _∙_}
+use mathlib.Core.Bool.{true, false}
+use lib.IntN.{pos}
 use lib.Signed.{ltZ}
 use Rattle.paper.specs.Outcome.{given, refused}
 use Rattle.paper.proofs.Outcomes.{unless-given}
 use Rattle.calendar.specs.Dates.{isDate}
 use Rattle.calendar.specs.declared.Date.{Date}
-use Rattle.time_period.specs.Steps.{Holidays, stepped, isLeast, inverseOf, served}
+use Rattle.time_period.specs.Steps.{Holidays, stepped, isLeast, negated, inverseOf, served}
 use Rattle.time_period.specs.declared.TimePeriod.{TimePeriod}
-use Rattle.time_period.proofs.Signs.{negative-back}
+use Rattle.time_period.proofs.Signs.{positive-not-least, negative-back}
 use Rattle.time_period.proofs.Steps.{EarlierDate, Stepped, step-leads}
 use Rattle.period_steps.specs.Added.{accepted, addTo, subFrom}
 
@@ -28,10 +28,6 @@ add-judged p h t u e =
     let b = unless-given (served (p .unit) h) 12 _ u (a .1) in
     let c = unless-given (accepted h) 13 _ u (b .1) in
     record { from = a .0; serves = b .0; taken = c .0; step = c .1 }
-
--- the period with its number negated
-abbrev pub negated : TimePeriod → TimePeriod
-negated p = record { num = negℤ (p .num); unit = p .unit }
 
 -- subtracting is adding the negated number, where there is one, and else 4, after the date's 1
 pub record Subtracted (p : TimePeriod) (h : Holidays) (t : Date) : Type 0 where
@@ -51,10 +47,6 @@ subtracted p h t =
 -- a period added leads later where its number is above zero, and subtracted earlier
 pub add-leads : (p : TimePeriod) (h : Holidays) (t u : Date) → addTo p h t ≡ given u → Stepped p h t u
 add-leads p h t u e = let j = add-judged p h t u e in step-leads p h t u (j .from) (j .step)
-
-positive-not-least : (n : ℤ) → ltZ (pos 0) n ≡ true → isLeast n ≡ false
-positive-not-least (pos k) e = refl
-positive-not-least (negsuc k) e = absurd (false≢true e)
 
 pub sub-leads : (p : TimePeriod) (h : Holidays) (t u : Date) → ltZ (pos 0) (p .num) ≡ true → subFrom p h t ≡ given u → EarlierDate t u
 sub-leads p h t u s e =

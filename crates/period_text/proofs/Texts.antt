@@ -3,10 +3,9 @@
 use Prim.Native.Nat.{ℕ, _+_, _-_, _≤_}
 use mathlib.Core.Path.{_≡_, refl, sym, _∙_, ap}
 use mathlib.Core.List.{List, [], _∷_, _++_}
-use native.Mathlib.Nat.{add-zero}
 use native.Mathlib.Omega.{arith}
-use lib.ListN.{length, take, getD, length-append}
-use lib.Seq.{take-at, getD-append-add}
+use lib.ListN.{length, take, length-append}
+use lib.Seq.{take-at, getD-at}
 use lib.IntN.{natAbs}
 use mir.Syntax.{w32}
 use mir.Val.{SFits}
@@ -35,10 +34,6 @@ letter-back Weekly = refl
 letter-back Monthly = refl
 letter-back Annual = refl
 
--- the last of a list is told by its length
-last-is : (s : List ℕ) (b k : ℕ) → k ≡ length s → getD (s ++ (b ∷ [])) k 0 ≡ b
-last-is s b k e = ap (λ (j : ℕ). getD (s ++ (b ∷ [])) j 0) (e ∙ sym (add-zero (length s))) ∙ getD-append-add s (b ∷ []) 0 0
-
 -- what is written is read back as the same period
 pub round-trip : (p : TimePeriod) → SFits w32 (p .num) → periodOf (periodText p) ≡ given p
 unfolding periodOf numberPart periodText
@@ -48,7 +43,7 @@ round-trip p f =
     let some : 1 ≤ length s = omega (arith, length-signed (p .num), length-decimal (natAbs (p .num)), places-some (natAbs (p .num))) in
     let long = length-append s (b ∷ []) in
     let k : length (s ++ (b ∷ [])) - 1 ≡ length s = omega arith in
-    rw (le-leb 2 (length (s ++ (b ∷ []))) (omega arith), last-is s b _ k, letter-back (p .unit), take-at s (b ∷ []) _ (sym k), signed-back 4 (p .num) f)
+    rw (le-leb 2 (length (s ++ (b ∷ []))) (omega arith), getD-at s b [] 0 _ (sym k), letter-back (p .unit), take-at s (b ∷ []) _ (sym k), signed-back 4 (p .num) f)
 
 -- from the lent bytes too
 pub written-back : (p : TimePeriod) (d e : List ℕ) (k : ℕ) → SFits w32 (p .num) → Written d e (periodText p) (given k) → periodOf (take k e) ≡ given p

@@ -3,18 +3,15 @@ use Prim.Native.Nat.{ℕ, _≤_}
 use mathlib.Core.Path.{_≡_}
 use mathlib.Core.List.{List}
 use native.Mathlib.Omega.{arith}
-use lib.IntN.{ℤ, pos, negℤ, _-ℤ_, +ℤ-idl}
-use mir.Syntax.{w32, w64}
+use lib.IntN.{ℤ, pos, negℤ}
+use mir.Syntax.{w32}
 use mir.Val.{toZ, ofZ}
-use mir.Facts.{toZ-pos, toZ-ofZ}
+use mir.Facts.{toZ-ofZ}
 use Rattle.paper.proofs.Numbers.{mag-minus}
 use Rattle.paper.specs.Outcome.{given, refused}
 use Rattle.reading.specs.Reading.{decimalNumber, belowZero, fromZero}
 
-pub minus : (v : ℕ) → v ≤ 2147483648 → (pos 0 -ℤ toZ w64 v) ≡ negℤ (pos v)
-minus v h = rw (toZ-pos w64 {n = v} (omega arith)) (+ℤ-idl (negℤ (pos v)))
-
--- read back from 32 bits
+-- a magnitude taken from zero, read back from 32 bits
 pub minus-back : (z : ℤ) (v : ℕ) → z ≡ negℤ (pos v) → v ≤ 2147483648 → toZ w32 (ofZ w32 z) ≡ negℤ (pos v)
 minus-back z v e h = rw (e) (toZ-ofZ {w = w32} (record { sfits = mag-minus v 2147483648 (omega arith) h }))
 

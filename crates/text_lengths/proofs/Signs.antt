@@ -4,8 +4,8 @@ use mathlib.Core.Path.{_≡_, refl, sym}
 use mathlib.Core.Bool.{Bool, true, false, false≢true, true≢false}
 use native.Mathlib.Omega.{arith}
 use lib.ListN.{length, length-append}
-use lib.IntN.{ℤ, pos, negsuc, negℤ, natAbs, _-ℤ_, +ℤ-idl}
-use lib.Signed.{ltZ, nonNeg}
+use lib.IntN.{ℤ, pos, negsuc, negℤ, natAbs}
+use lib.Signed.{ltZ, nonNeg, natAbs-le}
 use lib.Dec.{T, lit<}
 use mir.Syntax.{w32, w64}
 use mir.Val.{SFits, toZ, ofZ}
@@ -17,9 +17,6 @@ use Rattle.text_lengths.proofs.Digits.{decimal-within}
 pub below-negative : (z : ℤ) → ltZ z (pos 0) ≡ isNegative z
 below-negative (pos n) = le-ltb n 0 (omega arith)
 below-negative (negsuc n) = refl
-
-pub from-zero : (z : ℤ) → (pos 0 -ℤ z) ≡ negℤ z
-from-zero z = +ℤ-idl (negℤ z)
 
 pub abs-minus : (z : ℤ) → natAbs (negℤ z) ≡ natAbs z
 abs-minus (pos zero) = refl
@@ -39,10 +36,6 @@ pub not-below : (z : ℤ) → isNegative z ≡ false → T (nonNeg z)
 not-below (pos n) e = tt
 not-below (negsuc n) e = absurd (true≢false e)
 
-pub abs-most : (z : ℤ) → SFits w32 z → natAbs z ≤ 2147483648
-abs-most (pos n) f = omega (arith, f .sfits)
-abs-most (negsuc n) f = omega (arith, f .sfits)
-
 -- the test of a number against zero, as code has it
 pub below-flag : (z : ℤ) → SFits w32 z → ltZ (toZ w32 (ofZ w32 z)) (pos 0) ≡ isNegative z
 below-flag z f = rw (toZ-ofZ f) (below-negative z)
@@ -59,7 +52,7 @@ sign-within false = omega arith
 
 -- no text of a signed 32-bit number is longer than 11 bytes
 pub signed-within : (z : ℤ) → SFits w32 z → length (signedText z) ≤ 11
-signed-within z f = omega (arith, length-signed z, sign-within (isNegative z), decimal-within 10 (natAbs z) (omega arith) (omega (arith, abs-most z f)))
+signed-within z f = omega (arith, length-signed z, sign-within (isNegative z), decimal-within 10 (natAbs z) (omega arith) (omega (arith, natAbs-le z (f .sfits))))
 
 pub signed-length-is : (z : ℤ) (g : Bool) (m k : ℕ) → g ≡ isNegative z → m ≡ natAbs z → k ≡ length (decimalText m) → length (signText g) + k ≡ length (signedText z)
 signed-length-is z g m k p q e = rw (e, p, q) (sym (length-signed z))

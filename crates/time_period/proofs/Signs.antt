@@ -5,18 +5,16 @@ use mathlib.Core.Path.{_≡_, refl, sym, _∙_, ap, subst}
 use mathlib.Core.Bool.{true, false, false≢true, true≢false}
 use mathlib.Core.List.{List}
 use native.Mathlib.Omega.{arith}
-use native.Mathlib.Decide.{decLt}
-use lib.IntN.{ℤ, pos, negsuc, negℤ, natAbs, _+ℤ_, _-ℤ_, _*ℤ_, +ℤ-idl, pos-ne-negsuc}
+use lib.IntN.{ℤ, pos, negsuc, negℤ, natAbs, _+ℤ_, _-ℤ_, _*ℤ_, +ℤ-idl, -ℤ-+ℤ-cancel}
 use lib.Signed.{mag, ltZ}
 use mir.Syntax.{w32, w64}
 use mir.Val.{SFits, toZ, ofZ}
 use mir.Facts.{toZ-ofZ}
-use borrow.Author.Tests.{eq-eqb, ne-eqb, lt-ltb, ltb-true, ltb-false}
+use borrow.Author.Tests.{eqb-false, eq-eqb, ne-eqb, lt-ltb, ltb-true, ltb-false}
 use Rattle.text.specs.Writing.{isNegative}
 use Rattle.holidays.specs.Business.{laterFrom, earlierFrom}
 use Rattle.time_period.specs.Steps.{isLeast, businessDay}
 use Rattle.paper.proofs.Numbers.{widened}
-use Rattle.date_step.proofs.Landing.{sum-below, sum-above}
 
 -- what is told of a struct's number
 pub told : (z : ℤ) → mag z < 2 ^ 31 → SFits w32 z
@@ -32,12 +30,16 @@ pub not-least : (z : ℤ) → SFits w32 z → (ofZ w32 z ≡ 2147483648 → ⊥)
 not-least (pos n) f e = refl
 not-least (negsuc n) f e = ne-eqb n 2147483647 (λ q. e (omega arith))
 
-negative-fits : (z : ℤ) → SFits w32 z → (ofZ w32 z ≡ 2147483648 → ⊥) → SFits w32 (negℤ z)
+pub positive-not-least : (z : ℤ) → ltZ (pos 0) z ≡ true → isLeast z ≡ false
+positive-not-least (pos n) e = refl
+positive-not-least (negsuc n) e = absurd (false≢true e)
+
+negative-fits : (z : ℤ) → SFits w32 z → isLeast z ≡ false → SFits w32 (negℤ z)
 negative-fits (pos zero) f e = f
 negative-fits (pos (suc n)) f e = record { sfits = omega (arith, f .sfits) }
-negative-fits (negsuc n) f e = record { sfits = let q : n ≡ 2147483647 → ⊥ = λ q. e (omega arith) in omega (arith, f .sfits, q) }
+negative-fits (negsuc n) f e = record { sfits = omega (arith, f .sfits, eqb-false n 2147483647 e) }
 
-module _ (z : ℤ) (f : SFits w32 z) (e : ofZ w32 z ≡ 2147483648 → ⊥) where
+module _ (z : ℤ) (f : SFits w32 z) (e : isLeast z ≡ false) where
   minus-is : pos 0 -ℤ toZ w32 (ofZ w32 z) ≡ negℤ z
   minus-is = +ℤ-idl (negℤ (toZ w32 (ofZ w32 z))) ∙ ap negℤ (toZ-ofZ f)
 
@@ -113,15 +115,18 @@ pub below : (z : ℤ) → ltZ z (pos 0) ≡ true → (z ≡ negsuc (natAbs z - 1
 below (pos n) e = absurd (omega (arith, ltb-true n 0 e))
 below (negsuc n) e = (ap negsuc (omega arith), omega arith)
 
+-- where a move by n leads, on and back
+pub moved-by : (a b n : ℕ) → pos a +ℤ pos n ≡ pos b → a + n ≡ b
+moved-by a b n s = cc
+
+pub moved-back-by : (a b n : ℕ) → pos a +ℤ negℤ (pos n) ≡ pos b → b + n ≡ a
+moved-back-by a b n s = moved-by b a n (sym (ap (λ (z : ℤ). z +ℤ pos n) s) ∙ -ℤ-+ℤ-cancel (pos a) (pos n))
+
 -- a sum with a number above zero is more, and with one below it less
 pub moved-on : (a b : ℕ) (z : ℤ) → ltZ (pos 0) z ≡ true → pos a +ℤ z ≡ pos b → a < b
-moved-on a b (pos n) e s = let q : a + n ≡ b = cc in omega (arith, ltb-true 0 n e)
+moved-on a b (pos n) e s = omega (arith, ltb-true 0 n e, moved-by a b n s)
 moved-on a b (negsuc n) e s = absurd (false≢true e)
 
 pub moved-back : (a b : ℕ) (z : ℤ) → ltZ z (pos 0) ≡ true → pos a +ℤ z ≡ pos b → b < a
 moved-back a b (pos n) e s = absurd (omega (arith, ltb-true n 0 e))
-moved-back a b (negsuc n) e s = by (decLt n a)
-  where
-    by : Dec (n < a) → b < a
-    by (yes l) = let q : pos (a - suc n) ≡ pos b = sym (sum-above a n l) ∙ s in let r : a - suc n ≡ b = cc in omega arith
-    by (no l) = absurd (pos-ne-negsuc b (n - a) (sym s ∙ sum-below a n (omega arith)))
+moved-back a b (negsuc n) e s = omega (arith, moved-back-by a b (suc n) s)

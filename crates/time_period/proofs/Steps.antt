@@ -1,7 +1,7 @@
 -- Where a step leads: to a date of the calendar, later for a number above zero and earlier for one below; and what each unit keeps.
 -- Assumes nothing.
 use Prim.Native.Nat.{ℕ, suc, _-_, _≤_, _<_}
-use mathlib.Core.Path.{_≡_, sym, _∙_, ap, subst}
+use mathlib.Core.Path.{_≡_, sym, _∙_, ap}
 use mathlib.Core.Bool.{Bool, true, false, false≢true}
 use mathlib.Core.List.{List}
 use native.Mathlib.Omega.{arith}
@@ -9,12 +9,13 @@ use lib.Dec.{leb}
 use lib.IntN.{ℤ, pos, negsuc, natAbs, _+ℤ_, _*ℤ_}
 use lib.Signed.{ltZ}
 use Rattle.paper.specs.Outcome.{Outcome, given, refused, unless, andThen}
-use Rattle.paper.proofs.Outcomes.{given-injective, given-not-refused, refused-injective, unless-given, then-given}
+use Rattle.paper.proofs.Outcomes.{given-not-refused, refused-injective, then-given}
 use Rattle.calendar.specs.Dates.{isDate, isDay, dayNumber, theDate, monthIndex, monthDate}
 use Rattle.calendar.specs.Answers.{dateOf}
 use Rattle.calendar.specs.declared.Day.{Day}
 use Rattle.calendar.specs.declared.Date.{Date}
-use Rattle.calendar.proofs.Dates.{IsDate, date-yes, date-is, day-yes, day-is, number-from, number-to, date-found, the-date-is, number-found}
+use Rattle.calendar.proofs.Dates.{IsDate, date-is}
+use Rattle.calendar.proofs.Inverse.{on-day, date-of-number}
 use Rattle.calendar.proofs.Order.{month-order}
 use Rattle.date_step.specs.Steps.{landing, monthsLater, addMonths, existingDate, yearsLater, addYears, daysLater, addDays}
 use Rattle.holidays.specs.Business.{on, isBusiness}
@@ -50,15 +51,6 @@ pub record BusinessDaysOn (h : List ℕ) (t : Date) (n : ℤ) (u : Date) : Type 
   pub reached : businessDay h n (dayNumber t) ≡ given (on (dayNumber u))
   pub business : 1 ≤ natAbs n → isBusiness h (dayNumber u) ≡ true
 
--- the date that a serial day has
-day-dated : (d : Day) (u : Date) → dateOf d ≡ given u → IsDate u × (d ≡ on (dayNumber u))
-unfolding dateOf
-day-dated d u e =
-    let x = unless-given (isDay d) 1 (given (theDate (d .0))) u e in
-    let k = day-yes d (x .0) in
-    let q : theDate (d .0) ≡ u = given-injective (x .1) in
-    (subst IsDate q (the-date-is (d .0) (k .0) (k .1)), ap on (sym (number-found (d .0) (k .0) (k .1)) ∙ ap dayNumber q))
-
 module _ (h : List ℕ) where
   landed-business : (d : ℕ) (n : ℤ) (e : Day) → businessDay h n d ≡ given e → 1 ≤ natAbs n → isBusiness h (e .0) ≡ true
   landed-business d (pos k) e g l = later-gives h k d e l g .business
@@ -68,16 +60,14 @@ module _ (h : List ℕ) where
   unfolding businessStep
   business-step n t u e =
       let m = then-given (businessDay h n (dayNumber t)) dateOf u e in
-      let k = day-dated (m .0) u (m .2) in
-      let r : businessDay h n (dayNumber t) ≡ given (on (dayNumber u)) = m .1 ∙ ap given (k .1) in
+      let k = on-day (m .0) u (m .2) in
+      let r : businessDay h n (dayNumber t) ≡ given (on (dayNumber u)) = m .1 ∙ ap (λ (x : ℕ). given (on x)) (sym (k .1)) in
       record { dated = k .0; reached = r; business = landed-business (dayNumber t) n (on (dayNumber u)) r }
 
   -- none of them: the date itself, a business day or not
   pub no-business-days : (t : Date) → isDate t ≡ true → businessStep (pos 0) (table h) t ≡ given t
-  unfolding businessStep dateOf
-  no-business-days t d =
-      let i = date-yes t d in
-      rw (no-step _ (dayNumber t), day-is (on (dayNumber t)) (number-from t i) (number-to t i)) (ap given (date-found t i))
+  unfolding businessStep
+  no-business-days t d = rw (no-step _ (dayNumber t)) (date-of-number t d)
 
 -- ---- later and earlier
 

@@ -50,8 +50,12 @@ abbrev pub isLeast : ℤ → Bool
 isLeast (pos n) = false
 isLeast (negsuc n) = eqb n 2147483647
 
+-- a period with its number negated, which leads back
+abbrev pub negated : TimePeriod → TimePeriod
+negated p = record { num = negℤ (p .num); unit = p .unit }
+
 unfoldable pub inverseOf : TimePeriod → Outcome TimePeriod
-inverseOf p = unless (not (isLeast (p .num))) 4 (given (record { num = negℤ (p .num); unit = p .unit }))
+inverseOf p = unless (not (isLeast (p .num))) 4 (given (negated p))
 
 -- 12: B without a table
 abbrev pub needsTable : TimePeriodUnit → Bool

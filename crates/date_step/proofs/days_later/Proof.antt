@@ -12,8 +12,7 @@ use Rattle.date_step.specs.Steps.{placeOutcome, landing}
 use Rattle.calendar.specs.Dates.{dayNumber, theDate}
 use Rattle.calendar.specs.declared.Date.{Date}
 use Rattle.calendar.proofs.Dates.{IsDate, date-yes, number-from, number-to}
-use Rattle.date_step.proofs.Landing.{landed-to}
-use Rattle.date_step.proofs.Steps.{days-from-zero}
+use Rattle.date_step.proofs.Steps.{landed, days-from-zero}
 use Rattle.date_step.proofs.days_later.Statement.{statement}
 use Rattle.date_step.proofs.days_later.Tie as tie
 
@@ -47,7 +46,7 @@ enum-known-i : tie.Need-enum-known-i
 enum-known-i c = search needs
 
 reached : (c : tie.After-i) → c .i .given .0 .0 ≤ 3652058
-reached c = landed-to 3652058 _ (c .i .given .0 .0) (ap placeOutcome (sym (c .i .given .1)) ∙ moved (c .before .before))
+reached c = landed 3652058 _ (c .i .given .0 .0) (sym (moved (c .before .before)) ∙ ap placeOutcome (c .i .given .1)) .1
 
 add-date-on : tie.Need-add-date-on
 add-date-on c = omega (arith, reached (c .before))

@@ -10,7 +10,8 @@ use Rattle.date_step.specs.Steps.{placeOutcome, landing, monthsLater}
 use Rattle.calendar.specs.Dates.{monthIndex, monthDate}
 use Rattle.calendar.specs.declared.Date.{Date}
 use Rattle.paper.proofs.Numbers.{widened, wide-fits}
-use Rattle.date_step.proofs.Landing.{landed-to, wide-short}
+use Rattle.date_step.proofs.Landing.{wide-short}
+use Rattle.date_step.proofs.Steps.{landed}
 use Rattle.calendar.proofs.Dates.{IsDate, date-yes}
 use Rattle.date_step.proofs.months_later.Statement.{statement}
 use Rattle.date_step.proofs.months_later.Tie as tie
@@ -49,7 +50,7 @@ enum-known-i : tie.Need-enum-known-i
 enum-known-i c = search needs
 
 in-month-requires : tie.Need-in-month-requires
-in-month-requires c κs = landed-to 119987 _ (c .before .i .given .0 .0) (ap placeOutcome (sym (c .before .i .given .1)) ∙ moved (c .before .before .before))
+in-month-requires c κs = landed 119987 _ (c .before .i .given .0 .0) (sym (moved (c .before .before .before)) ∙ ap placeOutcome (c .before .i .given .1)) .1
 
 enum-known-k : tie.Need-enum-known-k
 enum-known-k c = search needs

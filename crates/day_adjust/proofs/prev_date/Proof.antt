@@ -10,7 +10,8 @@ use Rattle.calendar.specs.declared.Day.{Day}
 use Rattle.holidays.specs.Business.{prevFrom}
 use Rattle.holidays.proofs.Days.{prev-gives}
 use Rattle.day_adjust.specs.Adjustment.{prevDate}
-use Rattle.day_adjust.proofs.Adjusting.{judged-at, date-on-day}
+use Rattle.calendar.proofs.Inverse.{date-on-day}
+use Rattle.day_adjust.proofs.Adjusting.{judged-at}
 use Rattle.day_adjust.proofs.prev_date.Statement.{statement}
 use Rattle.day_adjust.proofs.prev_date.Tie as tie
 

@@ -12,8 +12,8 @@ use Rattle.icma_walks.specs.Walks.{walkOutcome}
 use Rattle.icma.specs.Walk.{negated, baseFrom, partsFrom, icmaParts}
 use Rattle.icma_walks.specs.declared.Walked.{Walked}
 use Rattle.time_period.specs.declared.TimePeriod.{TimePeriod}
-use Rattle.time_period.proofs.Signs.{minus-fits, minus-read, negative-back}
-use Rattle.icma.proofs.Steps.{not-the-least, base-ends}
+use Rattle.time_period.proofs.Signs.{positive-not-least, minus-fits, minus-read, negative-back}
+use Rattle.icma.proofs.Steps.{base-ends}
 use Rattle.icma.proofs.walked_parts.Statement.{statement}
 use Rattle.icma.proofs.walked_parts.Tie as tie
 
@@ -24,7 +24,7 @@ num-fits c = record { sfits = c .struct-told .given .0 .1 }
 turned : (c : tie.After-struct-told) → _≡_ {A = TimePeriod} (record { num = toZ w32 (ofZ w32 (pos 0 -ℤ toZ w32 (ofZ w32 (c .before .args .p .num)))); unit = c .before .args .p .unit }) (negated (c .before .args .p))
 turned c =
     let p = c .before .args .p in
-    ap {B = TimePeriod} (λ (z : ℤ). record { num = z; unit = p .unit }) (minus-read (p .num) (num-fits c) (not-the-least (p .num) (num-fits c) (c .before .pre .4)))
+    ap {B = TimePeriod} (λ (z : ℤ). record { num = z; unit = p .unit }) (minus-read (p .num) (num-fits c) (positive-not-least (p .num) (c .before .pre .4)))
 
 -- the base, as it was found
 found : (c : tie.After-base-from) → baseFrom (c .before .before .args .p) (negated (c .before .before .args .p)) (c .before .before .args .start) (c .before .before .args .end) (c .before .before .args .roll) ≡ walkOutcome (c .base-from .result)
@@ -36,7 +36,7 @@ based : (c : tie.After-b) → baseFrom (c .before .before .before .before .args 
 based c = found (c .before .before) ∙ ap walkOutcome (c .b .given .1)
 
 sub-t10 : tie.Need-sub-t10
-sub-t10 c = minus-fits (c .before .args .p .num) (num-fits c) (not-the-least (c .before .args .p .num) (num-fits c) (c .before .pre .4))
+sub-t10 c = minus-fits (c .before .args .p .num) (num-fits c) (positive-not-least (c .before .args .p .num) (c .before .pre .4))
 
 base-from-requires : tie.Need-base-from-requires
 base-from-requires c κs = (c .before .pre .0, c .before .pre .1, c .before .pre .3, c .before .pre .4, subst (λ (q : TimePeriod). ltZ (q .num) (pos 0) ≡ true) (sym (turned c)) (negative-back (c .before .args .p .num) (c .before .pre .4)))

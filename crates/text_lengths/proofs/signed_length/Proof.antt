@@ -2,11 +2,12 @@
 use mathlib.Core.Bool.{true, false}
 use mathlib.Core.Path.{sym, _∙_}
 use native.Mathlib.Omega.{arith}
+use lib.Signed.{natAbs-le}
 use mir.Facts.{toZ-ofZ}
 use mir.Syntax.{w32}
 use borrow.Author.Needs.{needs}
 use Rattle.text_lengths.proofs.Digits.{decimal-within}
-use Rattle.text_lengths.proofs.Signs.{below-flag, abs-most, signed-length-is}
+use Rattle.text_lengths.proofs.Signs.{below-flag, signed-length-is}
 use Rattle.text_lengths.proofs.signed_length.Statement.{statement}
 use Rattle.text_lengths.proofs.signed_length.Tie as tie
 
@@ -20,7 +21,7 @@ decimal-length-requires : tie.Need-decimal-length-requires
 decimal-length-requires c κs = search needs
 
 add-result : tie.Need-add-result
-add-result c = omega (arith, c .before .decimal-length .ensures, decimal-within 10 (c .before .before .magnitude .result) (omega arith) (omega (arith, (rw (toZ-ofZ {w = w32} (c .before .before .before .fits .n)) at (c .before .before .magnitude .ensures)), abs-most (c .before .before .before .args .n) (c .before .before .before .fits .n))))
+add-result c = omega (arith, c .before .decimal-length .ensures, decimal-within 10 (c .before .before .magnitude .result) (omega arith) (omega (arith, (rw (toZ-ofZ {w = w32} (c .before .before .before .fits .n)) at (c .before .before .magnitude .ensures)), natAbs-le (c .before .before .before .args .n) (c .before .before .before .fits .n .sfits))))
 
 returns : tie.Need-returns
 returns c = omega (arith, signed-length-is (c .before .before .before .args .n) true _ _ (sym (c .if1 .taken) ∙ below-flag (c .before .before .before .args .n) (c .before .before .before .fits .n)) (rw (toZ-ofZ {w = w32} (c .before .before .before .fits .n)) at (c .before .before .magnitude .ensures)) (c .before .decimal-length .ensures))

@@ -8,7 +8,7 @@ use native.Mathlib.Omega.{arith}
 use native.Mathlib.Decide.{decLt}
 use lib.Dec.{leb}
 use borrow.Author.Tests.{le-leb, lt-leb}
-use Rattle.paper.proofs.Outcomes.{given-not-refused}
+use Rattle.paper.proofs.Outcomes.{given-not-refused, Only}
 use Rattle.paper.specs.Outcome.{Outcome, given, refused, andThen}
 use Rattle.calendar.specs.Answers.{weekdayOf}
 use Rattle.calendar.specs.declared.Day.{Day}
@@ -265,11 +265,11 @@ module _ (t : List ℕ) (k n : ℕ) where
       join a b c u v = record { earlier = omega (arith, u .earlier, v .earlier); dated = v .dated; business = v .business }
 
   -- the only refusal is 1
-  pub later-refuses : (m : ℕ) → laterFrom t k n ≡ refused m → m ≡ 1
-  later-refuses m g = all-refused (nextFrom t) (λ x j f. next-refuses t x j f .number) k n m g
+  pub later-refuses : Only 1 (laterFrom t k n)
+  later-refuses = all-refused (nextFrom t) 1 (λ x j f. next-refuses t x j f .number) k n
 
-  pub earlier-refuses : (m : ℕ) → earlierFrom t k n ≡ refused m → m ≡ 1
-  earlier-refuses m g = all-refused (prevFrom t) (λ x j f. prev-refuses t x j f .number) k n m g
+  pub earlier-refuses : Only 1 (earlierFrom t k n)
+  earlier-refuses = all-refused (prevFrom t) 1 (λ x j f. prev-refuses t x j f .number) k n
 
   -- one step more
   pub later-more : laterFrom t (k + 1) n ≡ andThen (laterFrom t k n) (λ e. nextFrom t (e .0))

@@ -9,6 +9,7 @@ use lib.Ieee.{Float, nan}
 use lib.Dec.{leb, ltb}
 use lib.ListN.{length, getD, take, drop, set}
 use Rattle.paper.proofs.Lists.{head-at}
+use Rattle.paper.proofs.Outcomes.{unless-then}
 use Rattle.paper.specs.Outcome.{Outcome, given, unless, pick, both}
 use Rattle.room.specs.Room.{fitting, counted}
 use Rattle.calendar.specs.Dates.{isDay}
@@ -69,11 +70,7 @@ module _ {A B : Type 0} (part : A → B) (test : B → Bool) where
 
 -- the count of what fits is known from its length
 counted-is : {A : Type 0} (places : ℕ) (new : List A) → counted (fitting places (given new)) ≡ unless (leb (length new) places) 16 (given (length new))
-counted-is places new = by (leb (length new) places)
-  where
-    by : (b : Bool) → counted (unless b 16 (given new)) ≡ unless b 16 (given (length new))
-    by true = refl
-    by false = refl
+counted-is places new = unless-then (leb (length new) places) 16 (given new) (λ l. given (length l))
 
 -- so the parts alone decide the answer
 pub parts-decide : {A B : Type 0} (part : A → B) (ok : Bool) (dated later : B → Bool) (l : List A) (places : ℕ)

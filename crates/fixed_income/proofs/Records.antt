@@ -1,12 +1,13 @@
 -- The loops over records, with what each turn knows.
 -- Assumes nothing.
 use Prim.Native.Nat.{ℕ, _+_, _≤_, _<_}
-use mathlib.Core.Path.{_≡_, refl, sym, ap, _∙_}
-use mathlib.Core.Bool.{Bool, true, false, not}
+use mathlib.Core.Path.{_≡_, sym, ap, _∙_}
+use mathlib.Core.Bool.{Bool, true, not}
 use mathlib.Core.List.{List, _∷_}
 use native.Mathlib.Omega.{arith}
 use lib.Dec.{T}
 use lib.Ieee.Bits.{is-true, is-false}
+use mir.Facts.{T-not-not}
 use lib.ListN.{length, getD, drop, set}
 use Rattle.paper.specs.Outcome.{given}
 use Rattle.paper.specs.Lists.{those}
@@ -25,8 +26,7 @@ use Rattle.fixed_income.proofs.Later.{Judging, judging-none, judging-ye
 
 -- what a test that was not taken says of the opposite
 pub not-failed : (t : Bool) → T (not (not t)) → t ≡ true
-not-failed true h = refl
-not-failed false h = absurd h
+not-failed t h = is-true t (T-not-not t h)
 
 -- ---- the first pass: i records are judged, and n of them are later
 pub record Counting (date : Date) (ys : List CashFlow) : Type 0 where

@@ -2,7 +2,7 @@
 -- Assumes nothing.
 use Prim.Native.Nat.{ℕ, zero, suc, _+_, _-_, _*_, _/_, _%_, _≤_, _<_}
 use mathlib.Core.Path.{_≡_, refl, sym, ap, _∙_}
-use mathlib.Core.Bool.{Bool, true, false, _||_, not, true≢false}
+use mathlib.Core.Bool.{Bool, true, false, not, or-true, true≢false}
 use mathlib.Core.List.{List}
 use native.Mathlib.Omega.{arith}
 use native.Mathlib.Decide.{decLt}
@@ -39,11 +39,7 @@ shut-weekend t n e = rw e
 
 pub shut-listed : (t : List ℕ) (n : ℕ) → listed n t ≡ true → isBusiness t n ≡ false
 unfolding isBusiness
-shut-listed t n e = rw e (shut (isWeekend n))
-  where
-    shut : (b : Bool) → not (b || true) ≡ false
-    shut true = refl
-    shut false = refl
+shut-listed t n e = rw e (ap not (or-true (isWeekend n)))
 
 pub business-is : (t : List ℕ) (n : ℕ) → isWeekend n ≡ false → listed n t ≡ false → isBusiness t n ≡ true
 unfolding isBusiness

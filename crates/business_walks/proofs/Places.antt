@@ -1,7 +1,7 @@
 -- The place in a table that a day splits it at: the parts on its two sides, how it moves with the day, and what it says of the day.
 -- Assumes nothing.
 use Prim.Native.Nat.{ℕ, zero, suc, _+_, _-_, _≤_, _<_, zero-le}
-use mathlib.Core.Path.{_≡_, sym, ap, subst, _∙_}
+use mathlib.Core.Path.{_≡_, sym, subst}
 use mathlib.Core.Bool.{true, false}
 use mathlib.Core.List.{List, _∷_}
 use native.Mathlib.Omega.{arith}
@@ -10,7 +10,7 @@ use lib.ListN.{length, getD, take, drop, length-drop, List·getD-eq-default}
 use lib.Seq.{getD-take, getD-drop, length-take-le}
 use Rattle.holidays.specs.Table.{ascending, listed}
 use Rattle.holidays.specs.Search.{Splits}
-use Rattle.holidays.proofs.Places.{Bracket, bracket-whole, bracket-up}
+use Rattle.holidays.proofs.Places.{up-to, Bracket, bracket-whole, bracket-up}
 use Rattle.business_walks.proofs.Listed.{listed-at, unlisted}
 
 -- past the end stands a 0, which is no day
@@ -58,13 +58,9 @@ module _ {t : List ℕ} {n i : ℕ} (s : Splits t n i) where
     met-on = record {
       sorted = s .sorted;
       within = omega (arith, placed t n i d e);
-      before = λ k l. by k l (decLt k i);
+      before = λ k l. omega (arith, up-to t (s .sorted) k i (omega arith) (placed t n i d e));
       after = λ k l h. omega (arith, s .sorted i k (omega arith) h);
     }
-      where
-        by : (k : ℕ) → k < i + 1 → Dec (k < i) → getD t k 0 < n + 1
-        by k l (yes g) = omega (arith, s .before k g)
-        by k l (no g) = let j : k ≡ i = omega arith in omega (arith, ap (λ (x : ℕ). getD t x 0) j)
 
   -- or it is not
   pub past-on : (n ≡ getD t i 0 → ⊥) → Splits t (n + 1) i
@@ -72,15 +68,8 @@ module _ {t : List ℕ} {n i : ℕ} (s : Splits t n i) where
     sorted = s .sorted;
     within = s .within;
     before = λ k l. omega (arith, s .before k l);
-    after = λ k l m. by k l m (decLt i k);
+    after = λ k l m. omega (arith, h, s .after i (omega arith) (omega arith), up-to t (s .sorted) i k l m);
   }
-    where
-      by : (k : ℕ) → i ≤ k → k < length t → Dec (i < k) → n + 1 ≤ getD t k 0
-      by k l m (yes g) = omega (arith, s .after i (omega arith) (omega arith), s .sorted i k g m)
-      by k l m (no g) =
-          let j : i ≡ k = omega arith in
-          let f : n ≡ getD t k 0 → ⊥ = λ e. h (e ∙ ap (λ (x : ℕ). getD t x 0) (sym j)) in
-          omega (arith, s .after k l m, f)
 
 -- backwards: the day before is the holiday before the place
 pub record Met (t : List ℕ) (n i : ℕ) : Type 0 where
@@ -98,13 +87,9 @@ module _ {t : List ℕ} {n : ℕ} where
       sorted = s .sorted;
       within = omega (arith, s .within);
       before = λ k l. omega (arith, s .sorted k j (omega arith) (omega (arith, s .within)));
-      after = λ k l m. by k (omega arith) m (decLt j k);
+      after = λ k l m. omega (arith, up-to t (s .sorted) j k (omega arith) m);
     };
   }
-    where
-      by : (k : ℕ) → j ≤ k → k < length t → Dec (j < k) → n - 1 ≤ getD t k 0
-      by k l m (yes g) = omega (arith, s .sorted j k g m)
-      by k l m (no g) = let i : j ≡ k = omega arith in omega (arith, ap (λ (x : ℕ). getD t x 0) i)
 
   -- or it is not
   pub past-back : (i : ℕ) → Splits t n i → 1 < n → (n - 1 ≡ getD (0 ∷ t) i 0 → ⊥) → Splits t (n - 1) i
@@ -117,16 +102,12 @@ module _ {t : List ℕ} {n : ℕ} where
   past-back (suc j) s d h = record {
     sorted = s .sorted;
     within = s .within;
-    before = λ k l. by k l (decLt k j);
+    before = λ k l. omega (arith, last, up-to t (s .sorted) k j (omega arith) (omega (arith, s .within)));
     after = λ k l m. omega (arith, s .after k l m);
   }
     where
       last : getD t j 0 < n - 1
       last = omega (arith, s .before j (omega arith), h)
-
-      by : (k : ℕ) → k < suc j → Dec (k < j) → getD t k 0 < n - 1
-      by k l (yes g) = omega (arith, last, s .sorted k j g (omega (arith, s .within)))
-      by k l (no g) = let i : k ≡ j = omega arith in omega (arith, last, ap (λ (x : ℕ). getD t x 0) i)
 
 -- a place that is not past the one sought: before it, all is before
 pub bracket-near : (t : List ℕ) (n i : ℕ) → ascending t ≡ true → i ≤ length t → getD (0 ∷ t) i 0 < n → Bracket t n i (length t)

@@ -1,16 +1,16 @@
 -- Laws of a flow's answers: its amount's outcome, and then the date's. Assumes nothing.
 use Prim.Native.Nat.{ℕ, _+_}
-use mathlib.Core.Path.{_≡_, refl, sym, ap}
-use mathlib.Core.Bool.{Bool, true, false}
+use mathlib.Core.Path.{_≡_, sym, ap}
+use mathlib.Core.Bool.{true, false}
 use mathlib.Core.List.{List}
 use lib.ListN.{length}
 use lib.Ieee.Scale.{finite}
 use Rattle.paper.specs.Outcome.{given, refused, unless, andThen, passedAs}
-use Rattle.paper.proofs.Outcomes.{given-injective, unless-given, passed-given, passed-refused}
+use Rattle.paper.proofs.Outcomes.{given-injective, unless-given, unless-then, passed-given, passed-refused}
 use Rattle.calendar.specs.Dates.{isDate}
 use Rattle.cash_amount.specs.Amounts.{isCurrency}
 use Rattle.cash_flow.specs.declared.CashFlow.{CashFlow}
-use Rattle.amount_text.specs.AmountTexts.{amountText, amountShown}
+use Rattle.amount_text.specs.AmountTexts.{amountShown}
 use Rattle.amount_text.proofs.Answers.{amount-was}
 use Rattle.cash_flow_text.specs.Texts.{flowText, flowShown}
 use Rattle.cash_flow_text.proofs.Lengths.{flow-long}
@@ -18,12 +18,7 @@ use Rattle.cash_flow_text.proofs.Lengths.{flow-long}
 module _ (f : CashFlow) where
   flow-then : flowShown f ≡ andThen (amountShown (f .amount) (f .currency)) (λ xs. unless (isDate (f .date)) 1 (given (flowText f)))
   unfolding flowShown amountShown
-  flow-then = go (finite (f .amount)) (isCurrency (f .currency))
-    where
-      go : (a b : Bool) → unless a 15 (unless b 17 (unless (isDate (f .date)) 1 (given (flowText f)))) ≡ andThen (unless a 15 (unless b 17 (given (amountText (f .amount) (f .currency))))) (λ xs. unless (isDate (f .date)) 1 (given (flowText f)))
-      go true true = refl
-      go true false = refl
-      go false b = refl
+  flow-then = rw (unless-then, unless-then)
 
   pub flow-given : (k : ℕ) → given k ≡ passedAs length (amountShown (f .amount) (f .currency)) → isDate (f .date) ≡ true → given (11 + k) ≡ passedAs length (flowShown f)
   flow-given k e d =

@@ -2,8 +2,9 @@
 -- Assumes nothing.
 use mathlib.Core.Path.{_≡_, refl}
 use mathlib.Core.List.{[], _∷_}
+use Rattle.paper.specs.Lists.{allOf}
 use Rattle.paper.specs.Outcome.{given, refused}
-use Rattle.reading.specs.Reading.{isDigit, allDigits, isDecimal, continued, decimalNumber, begins, afterPlus, unsignedNumber}
+use Rattle.reading.specs.Reading.{isDigit, isDecimal, continued, decimalNumber, begins, afterPlus, unsignedNumber}
 use Rattle.text.specs.Writing.{digits, placesWithin, places, paddedText}
 use Rattle.gregorian.specs.Gregorian.{leap, lengthIn, monthLength}
 use Rattle.coupon_text.specs.CouponTexts.{isBlank, trimStart, before, trimEnd, trimmed, hasDot, upToDot, afterDot, monthPart, dayPart, couponText, couponDateText}
@@ -23,7 +24,7 @@ pub record Texts : Type 0 where
   pub written : couponDateText (on 5 7) ≡ 48 ∷ 53 ∷ 46 ∷ 48 ∷ 55 ∷ []
 
 pub texts : Texts
-unfolding couponDate leap lengthIn monthLength isDigit allDigits isDecimal continued decimalNumber begins afterPlus unsignedNumber digits placesWithin places paddedText isBlank trimStart before trimEnd trimmed hasDot upToDot afterDot monthPart dayPart couponText couponDateText
+unfolding couponDate leap lengthIn monthLength isDigit allOf isDecimal continued decimalNumber begins afterPlus unsignedNumber digits placesWithin places paddedText isBlank trimStart before trimEnd trimmed hasDot upToDot afterDot monthPart dayPart couponText couponDateText
 texts =
     record {
       plain = refl;

@@ -8,6 +8,7 @@ use native.Mathlib.Omega.{arith}
 use lib.Dec.{eqb}
 use lib.ListN.{length, length-append}
 use borrow.Author.Tests.{ne-eqb, lt-leb, le-leb}
+use Rattle.paper.specs.Lists.{allOf}
 use Rattle.paper.specs.Outcome.{given}
 use Rattle.paper.proofs.Outcomes.{both-true}
 use Rattle.reading.specs.Reading.{isDigit, allDigits}
@@ -49,7 +50,7 @@ data Visible : List ℕ → Type 0 where
   more : {b : ℕ} {s : List ℕ} → isBlank b ≡ false → Visible s → Visible (b ∷ s)
 
 digits-visible : (s : List ℕ) → allDigits s ≡ true → Visible s
-unfolding allDigits
+unfolding allOf
 digits-visible [] h = none
 digits-visible (b ∷ s) h = let k = both-true (isDigit b) (allDigits s) h in more (digit-visible b (k .0)) (digits-visible s (k .1))
 
@@ -71,22 +72,22 @@ end-visible (more {b} h (more k v)) = ap (before b) (end-visible (more k v))
 -- the parts of a text of digits, with a dot and without
 module _ (t : List ℕ) where
   up-to-dot : (s : List ℕ) → allDigits s ≡ true → upToDot (s ++ (46 ∷ t)) ≡ s
-  unfolding upToDot allDigits
+  unfolding upToDot allOf
   up-to-dot [] h = refl
   up-to-dot (b ∷ s) h = let k = both-true (isDigit b) (allDigits s) h in rw (digit-no-dot b (k .0)) (ap (λ (r : List ℕ). b ∷ r) (up-to-dot s (k .1)))
 
   has-dot : (s : List ℕ) → allDigits s ≡ true → hasDot (s ++ (46 ∷ t)) ≡ true
-  unfolding hasDot allDigits
+  unfolding hasDot allOf
   has-dot [] h = refl
   has-dot (b ∷ s) h = let k = both-true (isDigit b) (allDigits s) h in rw (digit-no-dot b (k .0)) (has-dot s (k .1))
 
   after-dot : (s : List ℕ) → allDigits s ≡ true → afterDot (s ++ (46 ∷ t)) ≡ t
-  unfolding afterDot allDigits
+  unfolding afterDot allOf
   after-dot [] h = refl
   after-dot (b ∷ s) h = let k = both-true (isDigit b) (allDigits s) h in rw (digit-no-dot b (k .0)) (after-dot s (k .1))
 
 no-dot : (s : List ℕ) → allDigits s ≡ true → upToDot s ≡ s
-unfolding upToDot allDigits
+unfolding upToDot allOf
 no-dot [] h = refl
 no-dot (b ∷ s) h = let k = both-true (isDigit b) (allDigits s) h in rw (digit-no-dot b (k .0)) (ap (λ (r : List ℕ). b ∷ r) (no-dot s (k .1)))
 

@@ -3,13 +3,14 @@
 use mathlib.Core.Path.{_≡_, refl}
 use mathlib.Core.List.{List, [], _∷_}
 use lib.Ieee.{Float}
+use Rattle.paper.specs.Lists.{those, allOf}
 use Rattle.paper.specs.Outcome.{given, refused}
 use Rattle.room.specs.Room.{roomAfter}
 use Rattle.gregorian.specs.Gregorian.{leap, lengthIn, monthLength}
 use Rattle.calendar.specs.Dates.{isDate, isBefore}
 use Rattle.calendar.specs.declared.Date.{Date}
 use Rattle.cash_flow.specs.declared.CashFlow.{CashFlow}
-use Rattle.fixed_income.specs.After.{laterOf, allOf, flowsAfter}
+use Rattle.fixed_income.specs.After.{flowsAfter}
 use Rattle.fixed_income.specs.Promises.{recordsWritten}
 use Rattle.calendar.proofs.Examples.{on}
 
@@ -33,7 +34,7 @@ pub record Records (a b c : Float) : Type 0 where
   pub room-past-it : roomAfter (λ f. f) (recordsWritten (note a b c) (on 2021 7 15) 3) (note c a b) ≡ euros (on 2022 1 17) b ∷ euros (on 2022 1 17) c ∷ euros (on 2022 1 17) b ∷ []
 
 pub records : (a b c : Float) → Records a b c
-unfolding leap lengthIn monthLength isDate isBefore laterOf allOf flowsAfter recordsWritten
+unfolding leap lengthIn monthLength isDate isBefore those allOf flowsAfter recordsWritten
 records a b c =
     record {
       all-later = refl;

@@ -3,54 +3,18 @@
 use Prim.Native.Nat.{ℕ, _+_, _≤_, _<_}
 use mathlib.Core.Path.{_≡_, refl, ap, subst, _∙_}
 use mathlib.Core.Bool.{Bool, true, false, true≢false, false≢true}
-use mathlib.Core.List.{List, [], _∷_, _++_, map}
+use mathlib.Core.List.{List, _∷_, _++_, map}
 use native.Mathlib.Omega.{arith}
 use borrow.Author.Tests.{le-leb, lt-leb, leb-true}
 use lib.Dec.{leb}
 use lib.ListN.{length, getD, drop, set, drop-of-length-le}
 use Rattle.paper.specs.Outcome.{Outcome, given, refused, unless, both}
-use Rattle.paper.proofs.Lists.{head-at}
+use Rattle.paper.specs.Lists.{those, allOf}
+use Rattle.paper.proofs.Lists.{head-at, those-yes, those-no, those-none, Passed, passed-none, passed-yes, passed-no, passed-all}
 use Rattle.room.specs.Room.{fitting, counted, roomAfter}
 use Rattle.room.proofs.Filling.{Filled, filled-none, filled-more, filled-all}
-use Rattle.fixed_income.specs.After.{laterOf, allOf, after}
+use Rattle.fixed_income.specs.After.{after}
 use Rattle.fixed_income.specs.Promises.{isRefused}
-
-module _ {A : Type 0} (later : A → Bool) where
-  pub later-yes : (x : A) (l : List A) → later x ≡ true → laterOf later (x ∷ l) ≡ x ∷ laterOf later l
-  unfolding laterOf
-  later-yes x l h = rw h
-
-  pub later-no : (x : A) (l : List A) → later x ≡ false → laterOf later (x ∷ l) ≡ laterOf later l
-  unfolding laterOf
-  later-no x l h = rw h
-
-  pub later-none : (xs : List A) (i : ℕ) → length xs ≤ i → laterOf later (drop i xs) ≡ []
-  unfolding laterOf
-  later-none xs i h = ap (laterOf later) (drop-of-length-le xs h)
-
--- i flows are passed, and k of them are later
-pub record Passed {A : Type 0} (later : A → Bool) (xs : List A) (i k : ℕ) : Type 0 where
-  pub inside : i ≤ length xs
-  pub small : k ≤ i
-  pub told : k + length (laterOf later (drop i xs)) ≡ length (laterOf later xs)
-
-module _ {A : Type 0} (later : A → Bool) (xs : List A) where
-  pub passed-none : Passed later xs 0 0
-  passed-none = record { inside = omega arith; small = omega arith; told = omega arith }
-
-  module _ (i k : ℕ) (x : A) (inside : i < length xs) (at : drop i xs ≡ x ∷ drop (i + 1) xs) (p : Passed later xs i k) where
-    pub passed-yes : later x ≡ true → Passed later xs (i + 1) (k + 1)
-    passed-yes h = record { inside = omega arith; small = omega (arith, p .small); told = omega (arith, p .told, ap length (ap (laterOf later) at ∙ later-yes later x (drop (i + 1) xs) h)) }
-
-    pub passed-no : later x ≡ false → Passed later xs (i + 1) k
-    passed-no h = record { inside = omega arith; small = omega (arith, p .small); told = omega (arith, p .told, ap length (ap (laterOf later) at ∙ later-no later x (drop (i + 1) xs) h)) }
-
-    -- a later one has a place among them
-    pub passed-fits : later x ≡ true → k < length (laterOf later xs)
-    passed-fits h = omega (arith, p .told, ap length (ap (laterOf later) at ∙ later-yes later x (drop (i + 1) xs) h))
-
-  pub passed-all : (i k : ℕ) → length xs ≤ i → Passed later xs i k → k ≡ length (laterOf later xs)
-  passed-all i k h p = omega (arith, p .told, ap length (later-none later xs i h))
 
 -- i flows are judged: what is left decides whether all have a date, and n are later
 pub record Judging {A : Type 0} (dated later : A → Bool) (xs : List A) (i n : ℕ) : Type 0 where
@@ -99,13 +63,13 @@ module _ {A : Type 0} (ok : Bool) (dated later : A → Bool) (xs : List A) (plac
 
   pub too-few : ok ≡ true → (i n : ℕ) → length xs ≤ i → Judging dated later xs i n → places < n → refused 16 ≡ Answer
   too-few h i n over j l =
-      let e : n ≡ length (laterOf later xs) = passed-all later xs i n over (j .passed) in
-      rw (h, dates-all dated later xs i n over j, lt-leb (length (laterOf later xs)) places (omega arith))
+      let e : n ≡ length (those later xs) = passed-all later xs i n over (j .passed) in
+      rw (h, dates-all dated later xs i n over j, lt-leb (length (those later xs)) places (omega arith))
 
   pub enough : ok ≡ true → (i n : ℕ) → length xs ≤ i → Judging dated later xs i n → n ≤ places → given n ≡ Answer
   enough h i n over j l =
-      let e : n ≡ length (laterOf later xs) = passed-all later xs i n over (j .passed) in
-      rw (h, dates-all dated later xs i n over j, le-leb (length (laterOf later xs)) places (omega arith)) (ap given e)
+      let e : n ≡ length (those later xs) = passed-all later xs i n over (j .passed) in
+      rw (h, dates-all dated later xs i n over j, le-leb (length (those later xs)) places (omega arith)) (ap given e)
 
 -- a refusal keeps the room
 pub kept : {A B : Type 0} (part : A → B) (o : Outcome (List A)) (old : List B) → isRefused (counted o) ≡ true → roomAfter part o old ≡ old
@@ -123,25 +87,25 @@ module _ {A : Type 0} (new : List A) (places : ℕ) where
   judged false h = absurd (true≢false h)
 
 pub unrefused : {A : Type 0} (ok : Bool) (dated later : A → Bool) (xs : List A) (places : ℕ) → isRefused (counted (fitting places (after ok dated later xs))) ≡ false
-    → (length (laterOf later xs) ≤ places) × (fitting places (after ok dated later xs) ≡ given (laterOf later xs))
-unrefused ok dated later xs places h = judged (laterOf later xs) places (both ok (allOf dated xs)) h
+    → (length (those later xs) ≤ places) × (fitting places (after ok dated later xs) ≡ given (those later xs))
+unrefused ok dated later xs places h = judged (those later xs) places (both ok (allOf dated xs)) h
 
 -- one list of room, written with a part of each later flow
 abbrev pub Column : {A B : Type 0} → (A → B) → (A → Bool) → List A → List B → ℕ → ℕ → List B → Type 0
-Column part later xs old i k new = Filled (map part (laterOf later xs)) old k (map part (laterOf later (drop i xs))) new
+Column part later xs old i k new = Filled (map part (those later xs)) old k (map part (those later (drop i xs))) new
 
 module _ {A B : Type 0} (part : A → B) (later : A → Bool) (xs : List A) (old : List B) where
   pub column-none : Column part later xs old 0 0 old
-  column-none = filled-none (map part (laterOf later xs)) old
+  column-none = filled-none (map part (those later xs)) old
 
   module _ (i k : ℕ) (x : A) (at : drop i xs ≡ x ∷ drop (i + 1) xs) (new : List B) (c : Column part later xs old i k new) where
     pub column-yes : later x ≡ true → k < length new → Column part later xs old (i + 1) (k + 1) (set new k (part x))
-    column-yes h l = filled-more (map part (laterOf later xs)) old k (part x) (map part (laterOf later (drop (i + 1) xs))) new l (subst (λ (u : List A). Filled (map part (laterOf later xs)) old k (map part u) new) (ap (laterOf later) at ∙ later-yes later x (drop (i + 1) xs) h) c)
+    column-yes h l = filled-more (map part (those later xs)) old k (part x) (map part (those later (drop (i + 1) xs))) new l (subst (λ (u : List A). Filled (map part (those later xs)) old k (map part u) new) (ap (those later) at ∙ those-yes later x (drop (i + 1) xs) h) c)
 
     pub column-no : later x ≡ false → Column part later xs old (i + 1) k new
-    column-no h = subst (λ (u : List A). Filled (map part (laterOf later xs)) old k (map part u) new) (ap (laterOf later) at ∙ later-no later x (drop (i + 1) xs) h) c
+    column-no h = subst (λ (u : List A). Filled (map part (those later xs)) old k (map part u) new) (ap (those later) at ∙ those-no later x (drop (i + 1) xs) h) c
 
-  pub column-all : (i k : ℕ) (new : List B) → length xs ≤ i → Passed later xs i k → Column part later xs old i k new → new ≡ roomAfter part (given (laterOf later xs)) old
+  pub column-all : (i k : ℕ) (new : List B) → length xs ≤ i → Passed later xs i k → Column part later xs old i k new → new ≡ roomAfter part (given (those later xs)) old
   column-all i k new h p c =
-      filled-all (map part (laterOf later xs)) old k new (subst (λ (u : List A). Filled (map part (laterOf later xs)) old k (map part u) new) (later-none later xs i h) c)
-      ∙ ap (λ (n : ℕ). map part (laterOf later xs) ++ drop n old) (passed-all later xs i k h p)
+      filled-all (map part (those later xs)) old k new (subst (λ (u : List A). Filled (map part (those later xs)) old k (map part u) new) (those-none later xs i h) c)
+      ∙ ap (λ (n : ℕ). map part (those later xs) ++ drop n old) (passed-all later xs i k h p)

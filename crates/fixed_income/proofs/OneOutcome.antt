@@ -5,6 +5,7 @@ use mathlib.Core.Path.{_≡_, sym, _∙_}
 use mathlib.Core.Bool.{Bool}
 use mathlib.Core.List.{List}
 use native.Mathlib.Omega.{arith}
+use Rattle.paper.specs.Lists.{those, allOf}
 use Rattle.paper.specs.Outcome.{given, Numbered, both}
 use Rattle.paper.proofs.Outcomes.{unless-numbered}
 use Rattle.room.specs.Room.{fitting}
@@ -14,7 +15,7 @@ use Rattle.calendar.specs.declared.Date.{Date}
 use Rattle.cash_flow.specs.declared.CashFlow.{CashFlow}
 use Rattle.cash_flow.specs.declared.FlowsAnswer.{FlowsAnswer}
 use Rattle.cash_flow.proofs.OneOutcome.{same-flows-answer}
-use Rattle.fixed_income.specs.After.{laterOf, allOf, after, hasDate, isLater, flowsAfter}
+use Rattle.fixed_income.specs.After.{after, hasDate, isLater, flowsAfter}
 use Rattle.fixed_income.specs.Promises.{recordsWritten, AfterPromise}
 
 -- the answer and the room
@@ -23,7 +24,7 @@ one-after flows date room e f r s p q = (same-flows-answer r s (p .answer ∙ sy
 
 pub numbered : {A : Type 0} (ok : Bool) (dated later : A → Bool) (xs : List A) (places : ℕ) → Numbered (fitting places (after ok dated later xs))
 numbered ok dated later xs places =
-    fitting-numbered places (after ok dated later xs) (unless-numbered (both ok (allOf dated xs)) 1 (given (laterOf later xs)) (omega arith) (omega arith))
+    fitting-numbered places (after ok dated later xs) (unless-numbered (both ok (allOf dated xs)) 1 (given (those later xs)) (omega arith) (omega arith))
 
 pub after-numbered : (flows : List CashFlow) (date : Date) (places : ℕ) → Numbered (recordsWritten flows date places)
 unfolding recordsWritten flowsAfter

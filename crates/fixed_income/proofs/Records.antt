@@ -1,15 +1,17 @@
 -- The loops over records, with what each turn knows.
 -- Assumes nothing.
 use Prim.Native.Nat.{ℕ, _+_, _≤_, _<_}
-use mathlib.Core.Path.{_≡_, refl, sym, ap, _∙_}
-use mathlib.Core.Bool.{Bool, true, false, not}
+use mathlib.Core.Path.{_≡_, sym, ap, _∙_}
+use mathlib.Core.Bool.{Bool, true, not}
 use mathlib.Core.List.{List, _∷_}
 use native.Mathlib.Omega.{arith}
 use lib.Dec.{T}
 use lib.Ieee.Bits.{is-true, is-false}
+use mir.Facts.{T-not-not}
 use lib.ListN.{length, getD, drop, set}
 use Rattle.paper.specs.Outcome.{given}
-use Rattle.paper.proofs.Lists.{head-at}
+use Rattle.paper.specs.Lists.{those}
+use Rattle.paper.proofs.Lists.{head-at, Passed, passed-none, passed-yes, passed-no, passed-fits}
 use Rattle.room.specs.Room.{counted}
 use Rattle.calendar.specs.Dates.{isDate}
 use Rattle.calendar.specs.declared.Date.{Date}
@@ -18,14 +20,13 @@ use Rattle.cash_flow.specs.declared.CashFlow.{CashFlow}
 use Rattle.cash_flow.specs.declared.FlowsAnswer.{FlowsAnswer}
 use Rattle.cash_flow.specs.declared.FlowsAnswer.the-variants.{Flows, Refused}
 use Rattle.cash_flow.proofs.NoFlow.{noFlow}
-use Rattle.fixed_income.specs.After.{laterOf, hasDate, isLater, flowsAfter}
+use Rattle.fixed_income.specs.After.{hasDate, isLater, flowsAfter}
 use Rattle.fixed_income.specs.Promises.{isRefused, recordsWritten, AfterPromise}
-use Rattle.fixed_income.proofs.Later.{Passed, passed-none, passed-yes, passed-no, passed-fits, Judging, judging-none, judging-yes, judging-no, undated, undated-flow, too-few, enough, kept, unrefused, Column, column-none, column-yes, column-no, column-all}
+use Rattle.fixed_income.proofs.Later.{Judging, judging-none, judging-yes, judging-no, undated, undated-flow, too-few, enough, kept, unrefused, Column, column-none, column-yes, column-no, column-all}
 
 -- what a test that was not taken says of the opposite
 pub not-failed : (t : Bool) → T (not (not t)) → t ≡ true
-not-failed true h = refl
-not-failed false h = absurd h
+not-failed t h = is-true t (T-not-not t h)
 
 -- ---- the first pass: i records are judged, and n of them are later
 pub record Counting (date : Date) (ys : List CashFlow) : Type 0 where
@@ -82,7 +83,7 @@ module _ (date : Date) (ys old : List CashFlow) (r : FlowsAnswer) (answers : Ans
   copy-refused h = record { answer = answers; contents = sym (kept (λ f. f) (recordsWritten ys date (length old)) old (ap isRefused (sym answers) ∙ is-true _ h)) }
 
   module _ (given-so : T (not (isRefused (flowsOutcome r)))) where
-    told : (length (laterOf (isLater date) ys) ≤ length old) × (recordsWritten ys date (length old) ≡ given (laterOf (isLater date) ys))
+    told : (length (those (isLater date) ys) ≤ length old) × (recordsWritten ys date (length old) ≡ given (those (isLater date) ys))
     unfolding recordsWritten flowsAfter
     told = unrefused (isDate date) hasDate (isLater date) ys (length old) (ap isRefused (sym answers) ∙ is-false _ given-so)
 

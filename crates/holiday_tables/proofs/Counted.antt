@@ -1,48 +1,34 @@
 -- How many days of a list are before a day: in an ascending list that is the day's place.
 -- Assumes nothing.
 use Prim.Native.Nat.{ℕ, zero, suc, _+_, _≤_, _<_, zero-le}
-use mathlib.Core.Path.{_≡_, refl, sym, ap, _∙_}
-use mathlib.Core.Bool.{true}
+use mathlib.Core.Path.{_≡_, refl}
+use mathlib.Core.Bool.{Bool, true}
 use mathlib.Core.List.{List, [], _∷_}
 use native.Mathlib.Omega.{arith}
 use native.Mathlib.Decide.{decLt}
-use lib.ListN.{length, getD, drop, drop-of-length-le}
+use lib.ListN.{length, getD}
 use lib.Dec.{ltb}
 use borrow.Author.Tests.{lt-ltb, le-ltb, le-leb}
-use Rattle.paper.proofs.Lists.{head-at}
-use Rattle.paper.specs.Outcome.{pick}
+use Rattle.paper.specs.Lists.{those}
 use Rattle.holidays.specs.Table.{ascendsFrom, ascending}
 use Rattle.holidays.specs.Search.{Splits}
 use Rattle.holidays.proofs.Table.{ascends-cons, from-low, in-order}
 
-pub below : ℕ → List ℕ → ℕ
-below n [] = 0
-below n (d ∷ ds) = pick (ltb d n) 1 0 + below n ds
+-- a day d is before n; and how many days of a list are
+abbrev pub isBelow : ℕ → ℕ → Bool
+isBelow n d = ltb d n
 
--- the count so far, and the days that are left
-module _ (t : List ℕ) (n i b : ℕ) (e : b + below n (drop i t) ≡ below n t) where
-  at-place : i < length t → b + (pick (ltb (getD t i 0) n) 1 0 + below n (drop (i + 1) t)) ≡ below n t
-  unfolding below
-  at-place l = ap (λ (r : List ℕ). b + below n r) (sym (head-at t i 0 l)) ∙ e
-
-  pub one-more : i < length t → getD t i 0 < n → b + 1 + below n (drop (i + 1) t) ≡ below n t
-  one-more l h = omega (arith, rw (lt-ltb (getD t i 0) n h) at (at-place l))
-
-  pub no-more : i < length t → n ≤ getD t i 0 → b + below n (drop (i + 1) t) ≡ below n t
-  no-more l h = omega (arith, rw (le-ltb (getD t i 0) n h) at (at-place l))
-
-  pub all-counted : length t ≤ i → b ≡ below n t
-  unfolding below
-  all-counted h = omega (arith, e, ap (below n) (drop-of-length-le t h))
+abbrev pub below : ℕ → List ℕ → ℕ
+below n t = length (those (isBelow n) t)
 
 -- in an ascending list none is before its lowest
 none-below : (low n : ℕ) (t : List ℕ) → ascendsFrom low t ≡ true → n ≤ low → below n t ≡ 0
-unfolding below
+unfolding those
 none-below low n [] a h = refl
 none-below low n (d ∷ ds) a h =
     let c = ascends-cons low d ds a in
     let l : n ≤ d = omega arith in
-    rw (le-ltb d n l) (let z : below n ds ≡ 0 = none-below (d + 1) n ds (c .2) (omega arith) in omega arith)
+    rw (le-ltb d n l) (none-below (d + 1) n ds (c .2) (omega arith))
 
 -- an ascending list has its head for its lowest
 ascends-from : (low d : ℕ) (ds : List ℕ) → ascendsFrom low (d ∷ ds) ≡ true → ascendsFrom d (d ∷ ds) ≡ true
@@ -58,18 +44,18 @@ record Parts (t : List ℕ) (n : ℕ) : Type 0 where
   pub after : (k : ℕ) → below n t ≤ k → k < length t → n ≤ getD t k 0
 
 parts : (low n : ℕ) (t : List ℕ) → ascendsFrom low t ≡ true → Parts t n
-unfolding below
+unfolding those
 parts low n [] a = record { within = zero-le; before = λ k h. absurd (omega arith); after = λ k h l. absurd (omega arith) }
 parts low n (d ∷ ds) a = by (parts (d + 1) n ds (ascends-cons low d ds a .2)) (decLt d n)
   where
     rest : ascendsFrom (d + 1) ds ≡ true
     rest = ascends-cons low d ds a .2
 
-    less : Parts ds n → below n (d ∷ ds) ≡ 1 + below n ds → d < n → (k : ℕ) → k < below n (d ∷ ds) → getD (d ∷ ds) k 0 < n
+    less : Parts ds n → below n (d ∷ ds) ≡ suc (below n ds) → d < n → (k : ℕ) → k < below n (d ∷ ds) → getD (d ∷ ds) k 0 < n
     less r z h zero l = h
     less r z h (suc k) l = r .before k (omega (arith, z))
 
-    more : Parts ds n → below n (d ∷ ds) ≡ 1 + below n ds → (k : ℕ) → below n (d ∷ ds) ≤ k → k < length (d ∷ ds) → n ≤ getD (d ∷ ds) k 0
+    more : Parts ds n → below n (d ∷ ds) ≡ suc (below n ds) → (k : ℕ) → below n (d ∷ ds) ≤ k → k < length (d ∷ ds) → n ≤ getD (d ∷ ds) k 0
     more r z zero l m = absurd (omega (arith, z))
     more r z (suc k) l m = r .after k (omega (arith, z)) (omega arith)
 
@@ -79,7 +65,7 @@ parts low n (d ∷ ds) a = by (parts (d + 1) n ds (ascends-cons low d ds a .2)) 
 
     by : Parts ds n → Dec (d < n) → Parts (d ∷ ds) n
     by r (yes h) =
-        let z : below n (d ∷ ds) ≡ 1 + below n ds = rw (lt-ltb d n h) in
+        let z : below n (d ∷ ds) ≡ suc (below n ds) = rw (lt-ltb d n h) in
         record { within = omega (arith, z, r .within); before = less r z h; after = more r z }
     by r (no h) =
         let l : n ≤ d = omega arith in

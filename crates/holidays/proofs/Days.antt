@@ -2,13 +2,13 @@
 -- Assumes nothing.
 use Prim.Native.Nat.{ℕ, zero, suc, _+_, _-_, _*_, _/_, _%_, _≤_, _<_}
 use mathlib.Core.Path.{_≡_, refl, sym, ap, _∙_}
-use mathlib.Core.Bool.{Bool, true, false, _||_, not, true≢false}
+use mathlib.Core.Bool.{Bool, true, false, not, or-true, true≢false}
 use mathlib.Core.List.{List}
 use native.Mathlib.Omega.{arith}
 use native.Mathlib.Decide.{decLt}
 use lib.Dec.{leb}
 use borrow.Author.Tests.{le-leb, lt-leb}
-use Rattle.paper.proofs.Outcomes.{given-not-refused}
+use Rattle.paper.proofs.Outcomes.{given-not-refused, Only}
 use Rattle.paper.specs.Outcome.{Outcome, given, refused, andThen}
 use Rattle.calendar.specs.Answers.{weekdayOf}
 use Rattle.calendar.specs.declared.Day.{Day}
@@ -39,11 +39,7 @@ shut-weekend t n e = rw e
 
 pub shut-listed : (t : List ℕ) (n : ℕ) → listed n t ≡ true → isBusiness t n ≡ false
 unfolding isBusiness
-shut-listed t n e = rw e (shut (isWeekend n))
-  where
-    shut : (b : Bool) → not (b || true) ≡ false
-    shut true = refl
-    shut false = refl
+shut-listed t n e = rw e (ap not (or-true (isWeekend n)))
 
 pub business-is : (t : List ℕ) (n : ℕ) → isWeekend n ≡ false → listed n t ≡ false → isBusiness t n ≡ true
 unfolding isBusiness
@@ -265,11 +261,11 @@ module _ (t : List ℕ) (k n : ℕ) where
       join a b c u v = record { earlier = omega (arith, u .earlier, v .earlier); dated = v .dated; business = v .business }
 
   -- the only refusal is 1
-  pub later-refuses : (m : ℕ) → laterFrom t k n ≡ refused m → m ≡ 1
-  later-refuses m g = all-refused (nextFrom t) (λ x j f. next-refuses t x j f .number) k n m g
+  pub later-refuses : Only 1 (laterFrom t k n)
+  later-refuses = all-refused (nextFrom t) 1 (λ x j f. next-refuses t x j f .number) k n
 
-  pub earlier-refuses : (m : ℕ) → earlierFrom t k n ≡ refused m → m ≡ 1
-  earlier-refuses m g = all-refused (prevFrom t) (λ x j f. prev-refuses t x j f .number) k n m g
+  pub earlier-refuses : Only 1 (earlierFrom t k n)
+  earlier-refuses = all-refused (prevFrom t) 1 (λ x j f. prev-refuses t x j f .number) k n
 
   -- one step more
   pub later-more : laterFrom t (k + 1) n ≡ andThen (laterFrom t k n) (λ e. nextFrom t (e .0))

@@ -3,10 +3,10 @@
 use Prim.Native.Nat.{ℕ, zero, suc, _+_, _-_}
 use mathlib.Core.Path.{_≡_, refl, sym, _∙_}
 use mathlib.Core.List.{List}
-use mathlib.Core.Bool.{Bool, true, false}
+use mathlib.Core.Bool.{Bool}
 use native.Mathlib.Omega.{arith}
-use Rattle.paper.specs.Outcome.{Outcome, Numbered}
-use Rattle.paper.proofs.Outcomes.{answerOf, one-answer, unless-numbered, then-numbered}
+use Rattle.paper.specs.Outcome.{Outcome, Numbered, given}
+use Rattle.paper.proofs.Outcomes.{answerOf, one-answer, unless-numbered, then-numbered, elim-numbered}
 use Rattle.calendar.specs.Dates.{isDay}
 use Rattle.calendar.specs.declared.Day.{Day}
 use Rattle.calendar.specs.declared.DayAnswer.{DayAnswer}
@@ -16,7 +16,6 @@ use Rattle.holidays.specs.Table.{isTable}
 use Rattle.holidays.specs.Business.{on, isBusiness, firstOf, nextFrom, lastOf, prevFrom, repeated}
 use Rattle.holidays.specs.declared.BusinessAnswer.{BusinessAnswer}
 use Rattle.holidays.specs.declared.BusinessAnswer.the-variants as business-answer
-use Rattle.holidays.proofs.Days.{choose}
 
 pub same-business-answer : (r s : BusinessAnswer) → businessOutcome r ≡ businessOutcome s → r ≡ s
 same-business-answer r s e = one-answer businessOutcome business-answer.Business business-answer.Refused (λ x. elim x as (λ y. answerOf business-answer.Business business-answer.Refused (businessOutcome y) ≡ y) [ business-answer.Business v ↦ refl | business-answer.Refused n ↦ refl ]) r s e
@@ -43,14 +42,10 @@ module _ (t : List ℕ) where
       one-earlier k p q = same-day-answer r s (p ∙ sym q)
 
 -- every refusal has its number
-chosen-numbered : (b : Bool) (d : Day) (o : Outcome Day) → Numbered o → Numbered (choose b d o)
-chosen-numbered true d o h = omega arith
-chosen-numbered false d o h = h
-
 first-numbered : (left : ℕ) (t : List ℕ) (n : ℕ) → Numbered (firstOf left t n)
 unfolding firstOf
 first-numbered zero t n = omega arith
-first-numbered (suc left) t n = chosen-numbered (isBusiness t n) (on n) (firstOf left t (n + 1)) (first-numbered left t (n + 1))
+first-numbered (suc left) t n = elim-numbered (isBusiness t n) (given (on n)) (firstOf left t (n + 1)) (omega arith) (first-numbered left t (n + 1))
 
 pub next-from-numbered : (t : List ℕ) (n : ℕ) → Numbered (nextFrom t n)
 unfolding nextFrom
@@ -59,7 +54,7 @@ next-from-numbered t n = first-numbered (3652059 - n) t (n + 1)
 last-numbered : (t : List ℕ) (n : ℕ) → Numbered (lastOf t n)
 unfolding lastOf
 last-numbered t zero = omega arith
-last-numbered t (suc n) = chosen-numbered (isBusiness t (suc n)) (on (suc n)) (lastOf t n) (last-numbered t n)
+last-numbered t (suc n) = elim-numbered (isBusiness t (suc n)) (given (on (suc n))) (lastOf t n) (omega arith) (last-numbered t n)
 
 pub prev-from-numbered : (t : List ℕ) (n : ℕ) → Numbered (prevFrom t n)
 unfolding prevFrom

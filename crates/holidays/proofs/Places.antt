@@ -11,6 +11,14 @@ use Rattle.holidays.specs.Table.{ascending}
 use Rattle.holidays.specs.Search.{Splits}
 use Rattle.holidays.proofs.Table.{in-order}
 
+-- days in strict order never fall from a place on
+pub up-to : (t : List ℕ) → ((p q : ℕ) → p < q → q < length t → getD t p 0 < getD t q 0) → (p q : ℕ) → p ≤ q → q < length t → getD t p 0 ≤ getD t q 0
+up-to t s p q h l = by (decLt p q)
+  where
+    by : Dec (p < q) → getD t p 0 ≤ getD t q 0
+    by (yes g) = omega (arith, s p q g l)
+    by (no g) = let i : p ≡ q = omega arith in omega (arith, ap (λ (x : ℕ). getD t x 0) i)
+
 -- halving: the place lies between lo and hi
 pub record Bracket (t : List ℕ) (n lo hi : ℕ) : Type 0 where
   pub sorted : (p q : ℕ) → p < q → q < length t → getD t p 0 < getD t q 0
@@ -34,13 +42,9 @@ module _ {t : List ℕ} {n lo hi : ℕ} (b : Bracket t n lo hi) where
     sorted = b .sorted;
     ordered = omega arith;
     within = b .within;
-    before = λ k f. by k f (decLt k m);
+    before = λ k f. omega (arith, up-to t (b .sorted) k m (omega arith) (omega (arith, b .within)));
     after = b .after;
   }
-    where
-      by : (k : ℕ) → k < m + 1 → Dec (k < m) → getD t k 0 < n
-      by k f (yes g) = omega (arith, b .within, b .sorted k m g (omega (arith, b .within)))
-      by k f (no g) = let i : k ≡ m = omega arith in omega (arith, ap (λ (x : ℕ). getD t x 0) i)
 
   pub bracket-down : (m : ℕ) → lo ≤ m → m < hi → n ≤ getD t m 0 → Bracket t n lo m
   bracket-down m l h e = record {
@@ -48,12 +52,8 @@ module _ {t : List ℕ} {n lo hi : ℕ} (b : Bracket t n lo hi) where
     ordered = l;
     within = omega (arith, b .within);
     before = b .before;
-    after = λ k f g. by k f g (decLt m k);
+    after = λ k f g. omega (arith, up-to t (b .sorted) m k f g);
   }
-    where
-      by : (k : ℕ) → m ≤ k → k < length t → Dec (m < k) → n ≤ getD t k 0
-      by k f g (yes d) = omega (arith, b .sorted m k d g)
-      by k f g (no d) = let i : m ≡ k = omega arith in omega (arith, ap (λ (x : ℕ). getD t x 0) i)
 
   pub bracket-ends : hi ≤ lo → Splits t n lo
   bracket-ends h = record {

@@ -4,7 +4,7 @@ use Prim.Native.Nat.{ℕ, zero, suc, _+_, _-_, _<_}
 use mathlib.Core.Path.{_≡_, refl, sym, ap, _∙_}
 use native.Mathlib.Omega.{arith}
 use native.Mathlib.Numerals.{add-one}
-use Rattle.paper.proofs.Outcomes.{given-not-refused}
+use Rattle.paper.proofs.Outcomes.{given-not-refused, then-same, Only, only-given, only-then}
 use Rattle.paper.specs.Outcome.{Outcome, given, refused, andThen}
 use Rattle.calendar.specs.declared.Day.{Day}
 use Rattle.holidays.specs.Business.{on, repeated}
@@ -22,11 +22,7 @@ module _ (step : ℕ → Outcome Day) where
   -- and k, then one
   last-one : (k n : ℕ) → repeated step (suc k) n ≡ andThen (repeated step k n) (λ e. step (e .0))
   unfolding repeated
-  last-one zero n = alone (step n)
-    where
-      alone : (o : Outcome Day) → andThen o (λ e. given (on (e .0))) ≡ o
-      alone (given e) = refl
-      alone (refused m) = refl
+  last-one zero n = then-same (step n)
   last-one (suc k) n = by (step n) (last-one k)
     where
       by : (o : Outcome Day) → ((m : ℕ) → repeated step (suc k) m ≡ andThen (repeated step k m) (λ e. step (e .0))) → andThen o (λ e. repeated step (suc k) (e .0)) ≡ andThen (andThen o (λ e. repeated step k (e .0))) (λ e. step (e .0))
@@ -67,15 +63,11 @@ module _ (step : ℕ → Outcome Day) where
         by (given d) q f r = join n (d .0) (e .0) (one n d q) (r (d .0) f)
         by (refused m) q f r = absurd (given-not-refused (sym f))
 
-  -- the steps are refused with 1 where each is
-  pub all-refused : ((n m : ℕ) → step n ≡ refused m → m ≡ 1) → (k n m : ℕ) → repeated step k n ≡ refused m → m ≡ 1
+  -- the steps are refused with one number only where each is
+  pub all-refused : (j : ℕ) → ((n : ℕ) → Only j (step n)) → (k n : ℕ) → Only j (repeated step k n)
   unfolding repeated
-  all-refused one zero n m g = absurd (given-not-refused g)
-  all-refused one (suc k) n m g = by (step n) refl g (all-refused one k)
-    where
-      by : (o : Outcome Day) → step n ≡ o → andThen o (λ e. repeated step k (e .0)) ≡ refused m → ((n m : ℕ) → repeated step k n ≡ refused m → m ≡ 1) → m ≡ 1
-      by (given d) q f r = r (d .0) m f
-      by (refused j) q f r = one n m (q ∙ f)
+  all-refused j one zero n = only-given j (on n)
+  all-refused j one (suc k) n = only-then j (step n) (λ e. repeated step k (e .0)) (one n) (λ e. all-refused j one k (e .0))
 
 -- two kinds of step that agree on each day they come to
 pub same-steps : (f g : ℕ → Outcome Day) (P : ℕ → Type 0) → ((n : ℕ) → P n → f n ≡ g n) → ((n : ℕ) (e : Day) → P n → g n ≡ given e → P (e .0)) → (k n : ℕ) → P n → repeated f k n ≡ repeated g k n

@@ -1,9 +1,8 @@
 -- A refusal of the walk has a number above 0.
 -- Assumes nothing.
-use mathlib.Core.Bool.{Bool, true, false}
 use native.Mathlib.Omega.{arith}
 use Rattle.paper.proofs.Walks.{walk-numbered}
-use Rattle.paper.specs.Outcome.{given, andThen, pick, Numbered}
+use Rattle.paper.specs.Outcome.{given, andThen, Numbered}
 use Rattle.paper.proofs.Outcomes.{then-numbered, pick-numbered}
 use Rattle.calendar.specs.Dates.{isBefore}
 use Rattle.calendar.specs.declared.Date.{Date}
@@ -38,8 +37,4 @@ unfolding icmaParts baseFrom partsFrom shortParts
 parts-numbered p start end roll =
     then-numbered (baseFrom p (negated p) start end roll) (partsFrom p (negated p) start end)
     (then-numbered (walkOn p start roll) _ (on-numbered p start roll) (λ a. back-numbered (negated p) end (a .at)))
-    (λ b. by (b .at) (isBefore (b .at) start))
-  where
-    by : (t : Date) (c : Bool) → Numbered (pick c (shortParts p start end t) (longParts p (negated p) start end t))
-    by t true = stepped-numbered p t _
-    by t false = long-numbered p (negated p) start end t
+    (λ b. pick-numbered (isBefore (b .at) start) _ _ (stepped-numbered p (b .at) _) (long-numbered p (negated p) start end (b .at)))

@@ -8,15 +8,17 @@ use native.Mathlib.Omega.{arith}
 use lib.Ieee.{Float, nan}
 use lib.Dec.{leb, ltb}
 use lib.ListN.{length, getD, take, drop, set}
-use Rattle.paper.proofs.Lists.{head-at}
+use Rattle.paper.specs.Lists.{those, allOf}
+use Rattle.paper.proofs.Lists.{head-at, Passed, passed-none, passed-yes, passed-no, passed-fits}
+use Rattle.paper.proofs.Outcomes.{unless-then}
 use Rattle.paper.specs.Outcome.{Outcome, given, unless, pick, both}
 use Rattle.room.specs.Room.{fitting, counted}
 use Rattle.calendar.specs.Dates.{isDay}
 use Rattle.calendar.specs.declared.Day.{Day}
 use Rattle.listed_flows.specs.Listed.{Listed, listed, isDayNumber, isLaterDay, listedAfter, shortest, daysWritten, listedWritten, ListedContents}
-use Rattle.fixed_income.specs.After.{laterOf, allOf, after}
+use Rattle.fixed_income.specs.After.{after}
 use Rattle.fixed_income.specs.Promises.{isRefused}
-use Rattle.fixed_income.proofs.Later.{Passed, passed-none, passed-yes, passed-no, passed-fits, Column, column-none, column-yes, column-no, column-all, kept, unrefused}
+use Rattle.fixed_income.proofs.Later.{Column, column-none, column-yes, column-no, column-all, kept, unrefused}
 
 pub listed-length : (ds cs : List ℕ) (xs : List Float) → length (listed ds cs xs) ≡ shortest (length ds) (length cs) (length xs)
 unfolding listed
@@ -58,33 +60,29 @@ module _ {A B : Type 0} (part : A → B) (test : B → Bool) where
   all-parts [] = refl
   all-parts (f ∷ l) = ap (both (test (part f))) (all-parts l)
 
-  later-parts : (l : List A) → length (laterOf (λ (f : A). test (part f)) l) ≡ length (laterOf test (map part l))
-  unfolding laterOf
+  later-parts : (l : List A) → length (those (λ (f : A). test (part f)) l) ≡ length (those test (map part l))
+  unfolding those
   later-parts [] = refl
   later-parts (f ∷ l) = by (test (part f)) (later-parts l)
     where
-      by : (b : Bool) → length (laterOf (λ (g : A). test (part g)) l) ≡ length (laterOf test (map part l)) → length (pick b (f ∷ laterOf (λ (g : A). test (part g)) l) (laterOf (λ (g : A). test (part g)) l)) ≡ length (pick b (part f ∷ laterOf test (map part l)) (laterOf test (map part l)))
+      by : (b : Bool) → length (those (λ (g : A). test (part g)) l) ≡ length (those test (map part l)) → length (pick b (f ∷ those (λ (g : A). test (part g)) l) (those (λ (g : A). test (part g)) l)) ≡ length (pick b (part f ∷ those test (map part l)) (those test (map part l)))
       by true e = ap suc e
       by false e = e
 
 -- the count of what fits is known from its length
 counted-is : {A : Type 0} (places : ℕ) (new : List A) → counted (fitting places (given new)) ≡ unless (leb (length new) places) 16 (given (length new))
-counted-is places new = by (leb (length new) places)
-  where
-    by : (b : Bool) → counted (unless b 16 (given new)) ≡ unless b 16 (given (length new))
-    by true = refl
-    by false = refl
+counted-is places new = unless-then (leb (length new) places) 16 (given new) (λ l. given (length l))
 
 -- so the parts alone decide the answer
 pub parts-decide : {A B : Type 0} (part : A → B) (ok : Bool) (dated later : B → Bool) (l : List A) (places : ℕ)
     → counted (fitting places (after ok (λ (f : A). dated (part f)) (λ (f : A). later (part f)) l)) ≡ counted (fitting places (after ok dated later (map part l)))
-parts-decide part ok dated later l places = ap (λ (b : Bool). counted (fitting places (unless (both ok b) 1 (given (laterOf (λ f. later (part f)) l))))) (all-parts part dated l) ∙ by (both ok (allOf dated (map part l)))
+parts-decide part ok dated later l places = ap (λ (b : Bool). counted (fitting places (unless (both ok b) 1 (given (those (λ f. later (part f)) l))))) (all-parts part dated l) ∙ by (both ok (allOf dated (map part l)))
   where
-    same : length (laterOf (λ f. later (part f)) l) ≡ length (laterOf later (map part l))
+    same : length (those (λ f. later (part f)) l) ≡ length (those later (map part l))
     same = later-parts part later l
 
-    by : (b : Bool) → counted (fitting places (unless b 1 (given (laterOf (λ f. later (part f)) l)))) ≡ counted (fitting places (unless b 1 (given (laterOf later (map part l)))))
-    by true = counted-is places (laterOf (λ f. later (part f)) l) ∙ ap (λ (n : ℕ). unless (leb n places) 16 (given n)) same ∙ sym (counted-is places (laterOf later (map part l)))
+    by : (b : Bool) → counted (fitting places (unless b 1 (given (those (λ f. later (part f)) l)))) ≡ counted (fitting places (unless b 1 (given (those later (map part l)))))
+    by true = counted-is places (those (λ f. later (part f)) l) ∙ ap (λ (n : ℕ). unless (leb n places) 16 (given n)) same ∙ sym (counted-is places (those later (map part l)))
     by false = refl
 
 -- and so do the days of the flows in three lists
@@ -121,11 +119,11 @@ module _ (day : Day) (flows : List Listed) (ds₀ cs₀ : List ℕ) (xs₀ : Lis
   }
 
   module _ (room : isRefused (counted (listedWritten day flows (shortest (length ds₀) (length cs₀) (length xs₀)))) ≡ false) where
-    pub roomy : length (laterOf (laterThan day) flows) ≤ shortest (length ds₀) (length cs₀) (length xs₀)
+    pub roomy : length (those (laterThan day) flows) ≤ shortest (length ds₀) (length cs₀) (length xs₀)
     unfolding listedWritten listedAfter
     roomy = unrefused (isDay day) (λ f. isDayNumber (f .day)) (laterThan day) flows (shortest (length ds₀) (length cs₀) (length xs₀)) room .0
 
-    written-is : listedWritten day flows (shortest (length ds₀) (length cs₀) (length xs₀)) ≡ given (laterOf (laterThan day) flows)
+    written-is : listedWritten day flows (shortest (length ds₀) (length cs₀) (length xs₀)) ≡ given (those (laterThan day) flows)
     unfolding listedWritten listedAfter
     written-is = unrefused (isDay day) (λ f. isDayNumber (f .day)) (laterThan day) flows (shortest (length ds₀) (length cs₀) (length xs₀)) room .1
 
@@ -134,7 +132,7 @@ module _ (day : Day) (flows : List Listed) (ds₀ cs₀ : List ℕ) (xs₀ : Lis
         -- a later flow has its place in each list
         pub places-for : ltb (day .0) (f .day) ≡ true → (k < length ds) × (k < length cs) × (k < length xs)
         places-for h =
-            let fits : k < length (laterOf (laterThan day) flows) = passed-fits (laterThan day) flows i k f inside at (w .passed) h in
+            let fits : k < length (those (laterThan day) flows) = passed-fits (laterThan day) flows i k f inside at (w .passed) h in
             (omega (arith, roomy, w .days-at .same-length), omega (arith, roomy, w .currencies-at .same-length), omega (arith, roomy, w .amounts-at .same-length))
 
         pub writing-yes : ltb (day .0) (f .day) ≡ true → Writing day flows ds₀ cs₀ xs₀ (i + 1) (k + 1) (set ds k (f .day)) (set cs k (f .currency)) (set xs k (f .amount))

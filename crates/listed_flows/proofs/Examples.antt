@@ -9,7 +9,7 @@ use Rattle.room.specs.Room.{roomAfter}
 use Rattle.calendar.specs.Dates.{isDay}
 use Rattle.calendar.specs.declared.Day.{Day}
 use Rattle.listed_flows.specs.Listed.{Listed, listed, listedAfter, listedWritten}
-use Rattle.fixed_income.specs.After.{laterOf, allOf}
+use Rattle.paper.specs.Lists.{those, allOf}
 
 abbrev serial : ℕ → Day
 serial n = record { 0 = n }
@@ -27,7 +27,7 @@ pub record Lists (a b c : Float) : Type 0 where
   pub days-written : roomAfter (λ f. f .day) (listedWritten (serial 5) (flow 3 1 a ∷ flow 7 2 c ∷ []) 2) (1 ∷ 2 ∷ []) ≡ 7 ∷ 2 ∷ []
 
 pub lists : (a b c : Float) → Lists a b c
-unfolding isDay laterOf allOf listed listedAfter listedWritten
+unfolding isDay those allOf listed listedAfter listedWritten
 lists a b c =
     record {
       shortest = refl;

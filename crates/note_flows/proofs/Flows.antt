@@ -5,16 +5,16 @@ use mathlib.Core.Path.{_≡_, refl, sym, _∙_, ap, subst}
 use mathlib.Core.Bool.{Bool, true, false}
 use mathlib.Core.List.{List, [], _∷_}
 use native.Mathlib.Omega.{arith}
-use lib.Dec.{leb}
 use lib.ListN.{length}
 use lib.Ieee.{Float}
 use Rattle.paper.specs.Lists.{Every}
 use Rattle.paper.specs.Outcome.{Outcome, given, refused, andThen}
-use Rattle.paper.proofs.Outcomes.{both-true, given-injective, given-not-refused, then-given}
+use Rattle.paper.proofs.Outcomes.{given-injective, given-not-refused, then-given}
 use Rattle.calendar.specs.Dates.{isDate, isBefore, dayNumber}
 use Rattle.calendar.specs.declared.Date.{Date}
 use Rattle.calendar.proofs.Dates.{date-yes, date-is, number-from, number-to}
 use Rattle.holidays.specs.Table.{isTable, ascending}
+use Rattle.holidays.proofs.Table.{table-ascends}
 use Rattle.day_adjust.specs.Adjustment.{adjusted}
 use Rattle.day_adjust.specs.declared.DayAdjust.{DayAdjust}
 use Rattle.day_adjust.specs.declared.DayAdjust.the-variants as rule
@@ -39,8 +39,7 @@ use Rattle.note_flows.specs.declared.Step.the-variants.{Pay, Stop}
 -- ---- what was judged
 
 pub judged-table : (n : Note) (position : Float) (table : List ℕ) → Judged n position table → ascending table ≡ true
-unfolding isTable
-judged-table n position table h = both-true (leb (length table) 4096) (ascending table) (passed (isPosition position) (isTable table) n n h .table-taken) .1
+judged-table n position table h = table-ascends table (passed (isPosition position) (isTable table) n n h .table-taken)
 
 pub judged-note : (n : Note) (position : Float) (table : List ℕ) → Judged n position table → Accepted n
 judged-note n position table h = passed (isPosition position) (isTable table) n n h .note

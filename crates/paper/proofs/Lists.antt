@@ -1,12 +1,13 @@
--- Parts of a list, as a slice gives them, and what holds of every element; over any kind of element. Assumes nothing.
+-- Parts of a list, as a slice gives them, what holds of every element, and those that a test takes; over any kind of element. Assumes nothing.
 use Prim.Native.Nat.{ℕ, zero, suc, _+_, _-_, _≤_, _<_}
 use mathlib.Core.Path.{_≡_, sym, ap, _∙_}
+use mathlib.Core.Bool.{Bool, true, false}
 use mathlib.Core.List.{List, [], _∷_, _++_}
 use native.Mathlib.Numerals.{add-one}
 use native.Mathlib.Omega.{arith}
-use lib.ListN.{length, take, drop, getD, length-drop}
+use lib.ListN.{length, take, drop, getD, length-drop, drop-of-length-le}
 use lib.Seq.{take-all, drop-cons, drop-drop}
-use Rattle.paper.specs.Lists.{Every}
+use Rattle.paper.specs.Lists.{Every, those}
 
 module _ {A : Type 0} where
   -- a part up to the end is all from its start on
@@ -43,3 +44,40 @@ module _ {A : Type 0} (P : A → Type 0) where
   every-at [] k d a h = absurd (omega arith)
   every-at (x ∷ l) zero d a h = a .0
   every-at (x ∷ l) (suc k) d a h = every-at l k d (a .1) (omega arith)
+
+module _ {A : Type 0} (test : A → Bool) where
+  pub those-yes : (x : A) (l : List A) → test x ≡ true → those test (x ∷ l) ≡ x ∷ those test l
+  unfolding those
+  those-yes x l h = rw h
+
+  pub those-no : (x : A) (l : List A) → test x ≡ false → those test (x ∷ l) ≡ those test l
+  unfolding those
+  those-no x l h = rw h
+
+  pub those-none : (l : List A) (i : ℕ) → length l ≤ i → those test (drop i l) ≡ []
+  unfolding those
+  those-none l i h = ap (those test) (drop-of-length-le l h)
+
+-- i elements are passed, and the test took k of them
+pub record Passed {A : Type 0} (test : A → Bool) (l : List A) (i k : ℕ) : Type 0 where
+  pub inside : i ≤ length l
+  pub small : k ≤ i
+  pub told : k + length (those test (drop i l)) ≡ length (those test l)
+
+module _ {A : Type 0} (test : A → Bool) (l : List A) where
+  pub passed-none : Passed test l 0 0
+  passed-none = record { inside = omega arith; small = omega arith; told = omega arith }
+
+  module _ (i k : ℕ) (x : A) (inside : i < length l) (at : drop i l ≡ x ∷ drop (i + 1) l) (p : Passed test l i k) where
+    pub passed-yes : test x ≡ true → Passed test l (i + 1) (k + 1)
+    passed-yes h = record { inside = omega arith; small = omega (arith, p .small); told = omega (arith, p .told, ap length (ap (those test) at ∙ those-yes test x (drop (i + 1) l) h)) }
+
+    pub passed-no : test x ≡ false → Passed test l (i + 1) k
+    passed-no h = record { inside = omega arith; small = omega (arith, p .small); told = omega (arith, p .told, ap length (ap (those test) at ∙ those-no test x (drop (i + 1) l) h)) }
+
+    -- one that the test takes has a place among those
+    pub passed-fits : test x ≡ true → k < length (those test l)
+    passed-fits h = omega (arith, p .told, ap length (ap (those test) at ∙ those-yes test x (drop (i + 1) l) h))
+
+  pub passed-all : (i k : ℕ) → length l ≤ i → Passed test l i k → k ≡ length (those test l)
+  passed-all i k h p = omega (arith, p .told, ap length (those-none test l i h))

@@ -80,3 +80,41 @@ passed-refused form (refused m) n e = ap refused (refused-injective e)
 pub both-true : (a b : Bool) → both a b ≡ true → (a ≡ true) × (b ≡ true)
 both-true true b e = (refl, e)
 both-true false b e = let z : _≡_ {A = Bool} false true = e in (z, cc)
+
+-- one of two outcomes by a test, as a recursion writes it, is numbered where both are
+pub elim-numbered : {A : Type 0} (b : Bool) (o p : Outcome A) → Numbered o → Numbered p → Numbered {A = A} (elim b [ true ↦ o | false ↦ p ])
+elim-numbered true o p h k = h
+elim-numbered false o p h k = k
+
+-- a check before a step is a check before both
+pub unless-then : {A B : Type 0} (b : Bool) (n : ℕ) (o : Outcome A) (f : A → Outcome B) → andThen (unless b n o) f ≡ unless b n (andThen o f)
+unless-then true n o f = refl
+unless-then false n o f = refl
+
+-- a step that gives what it has
+pub then-same : {A : Type 0} (o : Outcome A) → andThen o given ≡ o
+then-same (given a) = refl
+then-same (refused n) = refl
+
+-- nothing but n is refused
+abbrev pub Only : {A : Type 0} → ℕ → Outcome A → Type 0
+Only n o = (m : ℕ) → o ≡ refused m → m ≡ n
+
+module _ {A : Type 0} (n : ℕ) where
+  pub only-given : (a : A) → Only n (given a)
+  only-given a m e = absurd (given-not-refused e)
+
+  pub only-refused : Only {A = A} n (refused n)
+  only-refused m e = sym (refused-injective e)
+
+  pub only-unless : (b : Bool) (o : Outcome A) → Only n o → Only n (unless b n o)
+  only-unless true o h = h
+  only-unless false o h = only-refused
+
+  pub only-pick : (b : Bool) (o p : Outcome A) → Only n o → Only n p → Only n (pick b o p)
+  only-pick true o p h k = h
+  only-pick false o p h k = k
+
+  pub only-then : {B : Type 0} (o : Outcome A) (f : A → Outcome B) → Only n o → ((a : A) → Only n (f a)) → Only n (andThen o f)
+  only-then (given a) f h k m e = k a m e
+  only-then (refused j) f h k m e = h m (ap refused (refused-injective e))

@@ -5,7 +5,7 @@ use mathlib.Core.Bool.{Bool, true, false}
 use native.Mathlib.Omega.{arith}
 use Rattle.paper.specs.Outcome.{Outcome, given, refused, andThen, Numbered}
 use Rattle.paper.specs.Walks.{walked}
-use Rattle.paper.proofs.Outcomes.{given-injective, given-not-refused, then-given, then-numbered}
+use Rattle.paper.proofs.Outcomes.{given-injective, given-not-refused, then-given, then-numbered, elim-numbered}
 
 module _ {S : Type 0} (more : S → Bool) (turn : S → Outcome S) where
   pub walk-more : (k : ℕ) (s : S) → more s ≡ true → walked (suc k) more turn s ≡ andThen (turn s) (walked k more turn)
@@ -31,11 +31,7 @@ module _ {S : Type 0} (more : S → Bool) (turn : S → Outcome S) where
   pub walk-numbered : ((s : S) → Numbered (turn s)) → (k : ℕ) (s : S) → Numbered (walked k more turn s)
   unfolding walked
   walk-numbered n zero s = omega arith
-  walk-numbered n (suc k) s = by (more s) (then-numbered (turn s) (walked k more turn) (n s) (walk-numbered n k))
-    where
-      by : (b : Bool) → Numbered (andThen (turn s) (walked k more turn)) → Numbered {A = S} (elim b [ true ↦ andThen (turn s) (walked k more turn) | false ↦ given s ])
-      by true h = h
-      by false h = omega arith
+  walk-numbered n (suc k) s = elim-numbered (more s) (andThen (turn s) (walked k more turn)) (given s) (then-numbered (turn s) (walked k more turn) (n s) (walk-numbered n k)) (omega arith)
 
   -- what a turn keeps: P
   module _ (P : S → Type 0) where

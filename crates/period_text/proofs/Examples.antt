@@ -3,8 +3,9 @@
 use mathlib.Core.Path.{_≡_, refl}
 use mathlib.Core.List.{[], _∷_}
 use lib.IntN.{pos, negsuc}
+use Rattle.paper.specs.Lists.{allOf}
 use Rattle.paper.specs.Outcome.{given, refused}
-use Rattle.reading.specs.Reading.{isDigit, allDigits, isDecimal, continued, decimalNumber, begins, afterPlus, belowZero, fromZero, signedNumber}
+use Rattle.reading.specs.Reading.{isDigit, isDecimal, continued, decimalNumber, begins, afterPlus, belowZero, fromZero, signedNumber}
 use Rattle.text.specs.Writing.{digits, placesWithin, places, decimalText, signedText}
 use Rattle.time_period.specs.declared.TimePeriodUnit.the-variants.{Daily, BusinessDaily, Weekly, Monthly, Annual}
 use Rattle.period_text.specs.PeriodTexts.{unitOf, numberPart, periodOf, periodText}
@@ -39,7 +40,7 @@ pub record Texts : Type 0 where
   pub zero-written : periodText (of (pos 0) Daily) ≡ 48 ∷ 68 ∷ []
 
 pub texts : Texts
-unfolding isDigit allDigits isDecimal continued decimalNumber begins afterPlus belowZero fromZero signedNumber digits placesWithin places decimalText signedText unitOf numberPart periodOf periodText
+unfolding isDigit allOf isDecimal continued decimalNumber begins afterPlus belowZero fromZero signedNumber digits placesWithin places decimalText signedText unitOf numberPart periodOf periodText
 texts =
     record {
       six-months = refl;

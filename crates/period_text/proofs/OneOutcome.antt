@@ -2,13 +2,12 @@
 -- Assumes nothing.
 use Prim.Native.Nat.{ℕ, _-_}
 use mathlib.Core.Path.{_≡_, sym, _∙_}
-use mathlib.Core.Bool.{Bool, true, false}
 use mathlib.Core.List.{List}
 use native.Mathlib.Omega.{arith}
 use lib.Dec.{leb, eqb}
 use lib.ListN.{length, take, getD}
-use Rattle.paper.specs.Outcome.{given, refused, Numbered, pick}
-use Rattle.paper.proofs.Outcomes.{unless-numbered, then-numbered}
+use Rattle.paper.specs.Outcome.{given, refused, Numbered}
+use Rattle.paper.proofs.Outcomes.{unless-numbered, then-numbered, pick-numbered}
 use Rattle.reading.specs.Reading.{signedNumber}
 use Rattle.reading.proofs.Decimals.{signed-numbered}
 use Rattle.text.specs.Writing.{Written, lengthOutcome}
@@ -30,15 +29,12 @@ one-written p d e f r s v w = one-write d e f (periodText p) r s v w
 -- every refusal has its number
 unit-numbered : (b : ℕ) → Numbered (unitOf b)
 unfolding unitOf
-unit-numbered b = by (eqb b 68) (eqb b 66) (eqb b 87) (eqb b 77) (eqb b 89)
-  where
-    by : (d w m y z : Bool) → Numbered (pick d (given Daily) (pick w (given BusinessDaily) (pick m (given Weekly) (pick y (given Monthly) (pick z (given Annual) (refused 3))))))
-    by true w m y z = omega arith
-    by false true m y z = omega arith
-    by false false true y z = omega arith
-    by false false false true z = omega arith
-    by false false false false true = omega arith
-    by false false false false false = omega arith
+unit-numbered b =
+    pick-numbered (eqb b 68) (given Daily) _ (omega arith)
+    (pick-numbered (eqb b 66) (given BusinessDaily) _ (omega arith)
+    (pick-numbered (eqb b 87) (given Weekly) _ (omega arith)
+    (pick-numbered (eqb b 77) (given Monthly) _ (omega arith)
+    (pick-numbered (eqb b 89) (given Annual) (refused 3) (omega arith) (omega arith)))))
 
 pub read-numbered : (s : List ℕ) → Numbered (periodOf s)
 unfolding periodOf numberPart

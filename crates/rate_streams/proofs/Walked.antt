@@ -1,7 +1,6 @@
 -- The stream of records: what stands so far, with what is left of the slice, decides. Assumes nothing.
 use Prim.Native.Nat.{ℕ, _+_, _≤_, _<_}
 use mathlib.Core.Path.{_≡_, refl, sym, ap, _∙_}
-use mathlib.Core.Bool.{Bool, true, false}
 use mathlib.Core.List.{List, [], _∷_}
 use native.Mathlib.Omega.{arith}
 use lib.ListN.{length, getD, drop, drop-of-length-le}
@@ -10,7 +9,8 @@ use lib.Ieee.{Float}
 use denote.Laws.{Is}
 use denote.Enum.Laws as EL
 use Rattle.paper.proofs.Lists.{head-at}
-use Rattle.paper.specs.Outcome.{Outcome, given, refused, unless, andThen}
+use Rattle.paper.proofs.Outcomes.{unless-then}
+use Rattle.paper.specs.Outcome.{Outcome, given, refused, andThen}
 use Rattle.calendar.specs.declared.Date.{Date}
 use Rattle.cash_amount.specs.Amounts.{amountOutcome}
 use Rattle.cash_amount.specs.declared.AmountAnswer.{AmountAnswer}
@@ -39,11 +39,7 @@ pub record Summed (r : FlatRate) (today : Date) (ys : List CashFlow) : Type 0 wh
 module _ (r : FlatRate) (today : Date) (ys : List CashFlow) where
   pub start-told : (o : Outcome Float) → o ≡ streamStart r → andThen o (λ sum. streamFrom r today sum ys) ≡ discountedStream r today ys
   unfolding streamStart discountedStream
-  start-told o e = rw (e) (go (isRate (r .rate)))
-    where
-      go : (b : Bool) → andThen (unless b 15 (given (whole (pos 0)))) (λ sum. streamFrom r today sum ys) ≡ unless b 15 (streamFrom r today (whole (pos 0)) ys)
-      go true = refl
-      go false = refl
+  start-told o e = rw (e) (unless-then (isRate (r .rate)) 15 (given (whole (pos 0))) (λ sum. streamFrom r today sum ys))
 
   abbrev pub sum-start : (a : AmountAnswer) → Held a → amountOutcome a ≡ streamStart r → Summed r today ys
   sum-start a h e = record { i = 0; so-far = a; held = h; inside = omega arith; told = start-told (amountOutcome a) e }

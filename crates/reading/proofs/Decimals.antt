@@ -8,6 +8,7 @@ use lib.Dec.{leb, eqb}
 use lib.ListN.{length, getD, drop, drop-of-length-le}
 use lib.IntN.{ℤ}
 use borrow.Author.Tests.{le-leb, lt-leb, leb-true, eq-eqb, ne-eqb}
+use Rattle.paper.specs.Lists.{allOf}
 use Rattle.paper.specs.Outcome.{Outcome, given, refused, unless, Numbered}
 use Rattle.paper.proofs.Lists.{head-at}
 use Rattle.paper.proofs.Numbers.{between}
@@ -54,7 +55,7 @@ continued-most v (b ∷ s) = omega (arith, continued-most (v * 10 + (b - 48)) s)
 
 -- a byte that is no digit
 bad-first : (most n v b : ℕ) (s : List ℕ) → isDigit b ≡ false → remaining most n v (b ∷ s) ≡ refused n
-unfolding remaining allDigits
+unfolding remaining allOf
 bad-first most n v b s e = rw (e)
 
 pub remaining-bad : (most n v k : ℕ) (s : List ℕ) (z : Outcome ℕ) → remaining most n v (drop k s) ≡ z → k < length s → isDigit (getD s k 0) ≡ false → refused n ≡ z
@@ -62,7 +63,7 @@ remaining-bad most n v k s z e h f = sym (bad-first most n v (getD s k 0) (drop 
 
 -- a digit more
 digit-first : (most n v b : ℕ) (s : List ℕ) → isDigit b ≡ true → remaining most n v (b ∷ s) ≡ remaining most n (v * 10 + (b - 48)) s
-unfolding remaining allDigits continued
+unfolding remaining allOf continued
 digit-first most n v b s e = rw (e)
 
 pub remaining-more : (most n v k : ℕ) (s : List ℕ) (z : Outcome ℕ) → remaining most n v (drop k s) ≡ z → k < length s → isDigit (getD s k 0) ≡ true → remaining most n (v * 10 + (getD s k 0 - 48)) (drop (k + 1) s) ≡ z
@@ -78,7 +79,7 @@ unfolding remaining
 remaining-past most n v s z e h = sym (unless-both (allDigits s) n (continued v s)) ∙ rw (lt-leb (continued v s) most (omega (arith, continued-most v s))) at e
 
 pub remaining-end : (most n v k : ℕ) (s : List ℕ) (z : Outcome ℕ) → remaining most n v (drop k s) ≡ z → length s ≤ k → v ≤ most → given v ≡ z
-unfolding remaining allDigits continued
+unfolding remaining allOf continued
 remaining-end most n v k s z e h l = rw (drop-of-length-le s h, le-leb v most l) at e
 
 -- ---- the number that comes out

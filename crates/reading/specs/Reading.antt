@@ -2,11 +2,12 @@
 -- period, 6 in a coupon date. Assumes nothing.
 use Prim.Native.Nat.{ℕ, _+_, _-_, _*_}
 use mathlib.Core.Path.{_≡_}
-use mathlib.Core.Bool.{Bool, true, false}
+use mathlib.Core.Bool.{Bool, false}
 use mathlib.Core.List.{List, [], _∷_}
 use lib.Dec.{leb, eqb}
 use lib.ListN.{drop}
 use lib.IntN.{ℤ, pos, negℤ}
+use Rattle.paper.specs.Lists.{allOf}
 use Rattle.paper.specs.Outcome.{Outcome, given, refused, unless, andThen, pick, both}
 use Rattle.reading.specs.declared.NumberAnswer.{NumberAnswer}
 use Rattle.reading.specs.declared.NumberAnswer.the-variants as number
@@ -18,9 +19,8 @@ unfoldable pub isDigit : ℕ → Bool
 isDigit b = both (leb 48 b) (leb b 57)
 
 -- every byte is a digit
-unfoldable pub allDigits : List ℕ → Bool
-allDigits [] = true
-allDigits (b ∷ s) = both (isDigit b) (allDigits s)
+abbrev pub allDigits : List ℕ → Bool
+allDigits s = allOf isDigit s
 
 -- a decimal is one digit or more
 unfoldable pub isDecimal : List ℕ → Bool

@@ -2,13 +2,12 @@
 -- Assumes nothing.
 use Prim.Native.Nat.{ℕ, zero, suc, min}
 use mathlib.Core.Path.{_≡_, sym, _∙_}
-use mathlib.Core.Bool.{Bool, true, false}
 use mathlib.Core.List.{List, []}
 use native.Mathlib.Omega.{arith}
 use lib.ListN.{length}
 use lib.Ieee.{Float}
-use Rattle.paper.specs.Outcome.{Outcome, given, andThen, Numbered}
-use Rattle.paper.proofs.Outcomes.{then-numbered}
+use Rattle.paper.specs.Outcome.{Outcome, given, Numbered}
+use Rattle.paper.proofs.Outcomes.{then-numbered, elim-numbered}
 use Rattle.room.proofs.Fitting.{fitting-numbered}
 use Rattle.calendar.specs.Dates.{isBefore}
 use Rattle.calendar.specs.declared.Date.{Date}
@@ -51,13 +50,11 @@ module _ (n : Note) (position : Float) (table : List ℕ) where
   after-numbered : (k : ℕ) (t : Date) → Numbered (flowsAfter k n position table t)
   unfolding flowsAfter
   after-numbered zero t = omega arith
-  after-numbered (suc k) t = by (isBefore t (n .maturity)) (after-numbered k)
-    where
-      by : (b : Bool) → ((u : Date) → Numbered (flowsAfter k n position table u)) → Numbered {A = List CashFlow} (elim b [ true ↦ andThen (stepped (n .period) absent t) (λ next. followed (couponFlow n position table t next t) (flowsAfter k n position table next)) | false ↦ followed (paid n table (n .maturity) (nominalOf position n)) (given []) ])
-      by true r =
-          then-numbered (stepped (n .period) absent t) (λ next. followed (couponFlow n position table t next t) (flowsAfter k n position table next)) (step-numbered (n .period .unit) (n .period .num) t)
-          (λ u. followed-numbered (couponFlow n position table t u t) (flowsAfter k n position table u) (coupon-numbered t u t) (r u))
-      by false r = followed-numbered (paid n table (n .maturity) (nominalOf position n)) (given []) (paid-numbered (n .maturity) (nominalOf position n)) (omega arith)
+  after-numbered (suc k) t =
+      elim-numbered (isBefore t (n .maturity)) _ _
+      (then-numbered (stepped (n .period) absent t) (λ next. followed (couponFlow n position table t next t) (flowsAfter k n position table next)) (step-numbered (n .period .unit) (n .period .num) t)
+      (λ u. followed-numbered (couponFlow n position table t u t) (flowsAfter k n position table u) (coupon-numbered t u t) (after-numbered k u)))
+      (followed-numbered (paid n table (n .maturity) (nominalOf position n)) (given []) (paid-numbered (n .maturity) (nominalOf position n)) (omega arith))
 
   flows-numbered : Numbered (noteFlows n position table)
   unfolding noteFlows

@@ -9,6 +9,7 @@ use native.Mathlib.Numerals.{add-one}
 use native.Mathlib.Omega.{arith}
 use lib.ListN.{length, replicate, replicate-append-replicate}
 use borrow.Author.Tests.{lt-ltb, le-ltb}
+use Rattle.paper.specs.Lists.{allOf}
 use Rattle.paper.proofs.Numbers.{lt-or-le}
 use Rattle.paper.proofs.Outcomes.{both-true}
 use Rattle.reading.specs.Reading.{isDigit, allDigits, isDecimal, continued, decimalValue}
@@ -38,12 +39,12 @@ continued-worth v [] = refl
 continued-worth v (b ∷ s) = continued-worth (v * 10 + (b - 48)) s
 
 are-all : (s : List ℕ) → AreDigits 10 48 s → allDigits s ≡ true
-unfolding allDigits
+unfolding allOf
 are-all [] h = refl
 are-all (b ∷ s) h = rw (digit-yes b (h .0 .0) (omega arith), are-all s (h .1))
 
 pub all-are : (s : List ℕ) → allDigits s ≡ true → AreDigits 10 48 s
-unfolding allDigits
+unfolding allOf
 all-are [] e = omega arith
 all-are (b ∷ s) e =
     let q = both-true (isDigit b) (allDigits s) e in

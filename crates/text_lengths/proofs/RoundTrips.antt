@@ -9,6 +9,7 @@ use lib.IntN.{ℤ, pos, negsuc}
 use mir.Syntax.{w32}
 use mir.Val.{SFits}
 use borrow.Author.Tests.{le-leb, ne-eqb}
+use Rattle.paper.specs.Lists.{allOf}
 use Rattle.paper.specs.Outcome.{given}
 use Rattle.paper.proofs.Outcomes.{both-true}
 use Rattle.reading.specs.Reading.{isDigit, allDigits, isDecimal, decimalNumber, begins, afterPlus, unsignedNumber, belowZero, fromZero, signedNumber}
@@ -18,7 +19,7 @@ use Rattle.text_lengths.proofs.Digits.{digits-decimal, value-whole, pla
 
 -- a decimal has no sign before it
 begins-digit : (c : ℕ) (s : List ℕ) → c < 48 → isDecimal s ≡ true → begins c s ≡ false
-unfolding isDecimal allDigits begins
+unfolding isDecimal allOf begins
 begins-digit c [] h e = absurd (false≢true e)
 begins-digit c (b ∷ s) h e = ne-eqb b c (λ q. omega (arith, digit-bounds b (both-true (isDigit b) (allDigits s) e .0)))
 

@@ -5,6 +5,7 @@ use mathlib.Core.Bool.{true, false≢true}
 use mathlib.Core.List.{List, [], _∷_}
 use native.Mathlib.Omega.{arith}
 use lib.ListN.{length}
+use Rattle.paper.specs.Lists.{allOf}
 use Rattle.reading.specs.Reading.{allDigits, isDecimal, decimalValue}
 use Rattle.text_lengths.specs.NumberTexts.{digits, places, decimalText, paddedText}
 use Rattle.text_lengths.proofs.Numerals.{worth, worth-below, numeral-worth}
@@ -19,7 +20,7 @@ pub digits-only : (s : List ℕ) → allDigits s ≡ true → s ≡ digits (leng
 digits-only s e = rw (continued-worth 0 s, digits-numeral (length s) (worth 10 48 0 s), numeral-worth 10 48 0 s (all-are s e))
 
 all-of : (s : List ℕ) → isDecimal s ≡ true → allDigits s ≡ true
-unfolding isDecimal allDigits
+unfolding isDecimal allOf
 all-of [] e = refl
 all-of (b ∷ s) e = e
 

@@ -8,8 +8,8 @@ use lib.Dec.{eqb}
 use lib.IntN.{pos, natAbs}
 use lib.Signed.{ltZ}
 use borrow.Author.Tests.{eqb-true}
-use Rattle.paper.specs.Outcome.{Outcome, given, refused, pick}
-use Rattle.paper.proofs.Outcomes.{given-injective, refused-injective, given-not-refused}
+use Rattle.paper.specs.Outcome.{given, refused, pick}
+use Rattle.paper.proofs.Outcomes.{given-injective, given-not-refused, Only, only-given, only-refused, only-pick}
 use Rattle.time_period.specs.Periods.{monthsFrequency, yearsFrequency, unitFrequency, frequencyOf}
 use Rattle.time_period.specs.declared.TimePeriodUnit.{TimePeriodUnit}
 use Rattle.time_period.specs.declared.TimePeriodUnit.the-variants.{Daily, BusinessDaily, Weekly, Monthly, Annual}
@@ -59,24 +59,17 @@ unit-found u n f (twelve-months a b c) = rw (a, b, c)
 unit-found u n f (one-year a b c) = rw (a, b, c)
 
 -- the only refusal is 5
-unit-refuses : (u : TimePeriodUnit) (n k : ℕ) → unitFrequency u n ≡ refused k → k ≡ 5
+unit-refuses : (u : TimePeriodUnit) (n : ℕ) → Only 5 (unitFrequency u n)
 unfolding monthsFrequency yearsFrequency
-unit-refuses Daily n k e = sym (refused-injective e)
-unit-refuses BusinessDaily n k e = sym (refused-injective e)
-unit-refuses Weekly n k e = sym (refused-injective e)
-unit-refuses Monthly n k e = by (eqb n 1) (eqb n 3) (eqb n 6) (eqb n 12) e
-  where
-    by : (a b c d : Bool) → pick {A = Outcome ℕ} a (given 12) (pick b (given 4) (pick c (given 2) (pick d (given 1) (refused 5)))) ≡ refused k → k ≡ 5
-    by true b c d g = absurd (given-not-refused g)
-    by false true c d g = absurd (given-not-refused g)
-    by false false true d g = absurd (given-not-refused g)
-    by false false false true g = absurd (given-not-refused g)
-    by false false false false g = sym (refused-injective g)
-unit-refuses Annual n k e = by (eqb n 1) e
-  where
-    by : (a : Bool) → pick {A = Outcome ℕ} a (given 1) (refused 5) ≡ refused k → k ≡ 5
-    by true g = absurd (given-not-refused g)
-    by false g = sym (refused-injective g)
+unit-refuses Daily n = only-refused 5
+unit-refuses BusinessDaily n = only-refused 5
+unit-refuses Weekly n = only-refused 5
+unit-refuses Monthly n =
+    only-pick 5 (eqb n 1) (given 12) _ (only-given 5 12)
+    (only-pick 5 (eqb n 3) (given 4) _ (only-given 5 4)
+    (only-pick 5 (eqb n 6) (given 2) _ (only-given 5 2)
+    (only-pick 5 (eqb n 12) (given 1) (refused 5) (only-given 5 1) (only-refused 5))))
+unit-refuses Annual n = only-pick 5 (eqb n 1) (given 1) (refused 5) (only-given 5 1) (only-refused 5)
 
 -- a frequency's exact condition, signs ignored
 pub record Frequent (p : TimePeriod) : Type 0 where

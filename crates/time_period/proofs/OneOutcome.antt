@@ -6,7 +6,7 @@ use mathlib.Core.Bool.{not}
 use native.Mathlib.Omega.{arith}
 use lib.IntN.{ℤ}
 use Rattle.paper.specs.Outcome.{Outcome, given, refused, Numbered}
-use Rattle.paper.proofs.Outcomes.{unless-numbered, answerOf, one-answer}
+use Rattle.paper.proofs.Outcomes.{unless-numbered, answerOf, one-answer, Only}
 use Rattle.calendar.specs.declared.Date.{Date}
 use Rattle.time_period.specs.Periods.{periodOutcome, frequencyOutcome, frequencyOf, FrequencyPromise}
 use Rattle.time_period.specs.Steps.{absent, businessStep, unitStep, isLeast, inverseOf, InversePromise}
@@ -34,7 +34,7 @@ module _ (p : TimePeriod) where
   one-inverse r s v w = same-period-answer r s (v ∙ sym w)
 
 -- every refusal has its number; what is refused with one number only
-pub numbered-by : {A : Type 0} (n : ℕ) → 0 < n → (o : Outcome A) → ((m : ℕ) → o ≡ refused m → m ≡ n) → Numbered o
+pub numbered-by : {A : Type 0} (n : ℕ) → 0 < n → (o : Outcome A) → Only n o → Numbered o
 numbered-by n h (given a) k = omega arith
 numbered-by n h (refused m) k = let e = k m refl in omega arith
 

@@ -2,14 +2,14 @@
 -- Assumes nothing.
 use Prim.Native.Nat.{ℕ, suc, _-_, _≤_, _<_}
 use mathlib.Core.Path.{_≡_, sym, _∙_, ap}
-use mathlib.Core.Bool.{Bool, true, false, false≢true}
+use mathlib.Core.Bool.{true, false≢true}
 use mathlib.Core.List.{List}
 use native.Mathlib.Omega.{arith}
 use lib.Dec.{leb}
 use lib.IntN.{ℤ, pos, negsuc, natAbs, _+ℤ_, _*ℤ_}
 use lib.Signed.{ltZ}
-use Rattle.paper.specs.Outcome.{Outcome, given, refused, unless, andThen}
-use Rattle.paper.proofs.Outcomes.{given-not-refused, refused-injective, then-given}
+use Rattle.paper.specs.Outcome.{given}
+use Rattle.paper.proofs.Outcomes.{given-not-refused, then-given, Only, only-given, only-refused, only-unless, only-then}
 use Rattle.calendar.specs.Dates.{isDate, isDay, dayNumber, theDate, monthIndex, monthDate}
 use Rattle.calendar.specs.Answers.{dateOf}
 use Rattle.calendar.specs.declared.Day.{Day}
@@ -188,46 +188,34 @@ step-earlier p t u d h e = let s = step-leads p absent t u d e in (date-is u (s 
 
 -- ---- refused
 
--- nothing but 1 is refused
-abbrev pub OnlyOne : {A : Type 0} → Outcome A → Type 0
-OnlyOne o = (m : ℕ) → o ≡ refused m → m ≡ 1
-
-only-then : {A B : Type 0} (o : Outcome A) (f : A → Outcome B) → OnlyOne o → ((a : A) → OnlyOne (f a)) → OnlyOne (andThen o f)
-only-then (given a) f k l m e = l a m e
-only-then (refused j) f k l m e = k m (ap refused (refused-injective e))
-
-only-unless : {A : Type 0} (b : Bool) (a : A) → OnlyOne (unless b 1 (given a))
-only-unless true a m e = absurd (given-not-refused e)
-only-unless false a m e = sym (refused-injective e)
-
-only-landing : (last : ℕ) (z : ℤ) → OnlyOne (landing last z)
+only-landing : (last : ℕ) (z : ℤ) → Only 1 (landing last z)
 unfolding landing
-only-landing last (pos k) m e = only-unless (leb k last) k m e
-only-landing last (negsuc k) m e = sym (refused-injective e)
+only-landing last (pos k) = only-unless 1 (leb k last) (given k) (only-given 1 k)
+only-landing last (negsuc k) = only-refused 1
 
-only-date : (d : Day) → OnlyOne (dateOf d)
+only-date : (d : Day) → Only 1 (dateOf d)
 unfolding dateOf
-only-date d m e = only-unless (isDay d) (theDate (d .0)) m e
+only-date d = only-unless 1 (isDay d) (given (theDate (d .0))) (only-given 1 (theDate (d .0)))
 
-only-days : (t : Date) (n : ℤ) → OnlyOne (daysLater t n)
+only-days : (t : Date) (n : ℤ) → Only 1 (daysLater t n)
 unfolding daysLater
-only-days t n = only-then (landing 3652059 (pos (dayNumber t) +ℤ n)) (λ k. dateOf (record { 0 = k })) (only-landing _ _) (λ k. only-date (record { 0 = k }))
+only-days t n = only-then 1 (landing 3652059 (pos (dayNumber t) +ℤ n)) (λ k. dateOf (record { 0 = k })) (only-landing _ _) (λ k. only-date (record { 0 = k }))
 
-only-business : (h : List ℕ) (n : ℤ) (d : ℕ) → OnlyOne (businessDay h n d)
-only-business h (pos k) d m e = later-refuses h k d m e
-only-business h (negsuc k) d m e = earlier-refuses h (suc k) d m e
+only-business : (h : List ℕ) (n : ℤ) (d : ℕ) → Only 1 (businessDay h n d)
+only-business h (pos k) d = later-refuses h k d
+only-business h (negsuc k) d = earlier-refuses h (suc k) d
 
-unit-refuses : (v : TimePeriodUnit) (n : ℤ) (h : Holidays) (t : Date) → served v h ≡ true → OnlyOne (unitStep v n h t)
+unit-refuses : (v : TimePeriodUnit) (n : ℤ) (h : Holidays) (t : Date) → served v h ≡ true → Only 1 (unitStep v n h t)
 unfolding businessStep monthsLater yearsLater existingDate
 unit-refuses Daily n h t s = only-days t n
 unit-refuses BusinessDaily n absent t s = absurd (false≢true s)
-unit-refuses BusinessDaily n (table h) t s = only-then (businessDay h n (dayNumber t)) dateOf (only-business h n (dayNumber t)) only-date
+unit-refuses BusinessDaily n (table h) t s = only-then 1 (businessDay h n (dayNumber t)) dateOf (only-business h n (dayNumber t)) only-date
 unit-refuses Weekly n h t s = only-days t (pos 7 *ℤ n)
-unit-refuses Monthly n h t s = only-then (landing 119987 (pos (monthIndex t) +ℤ n)) (λ i. given (monthDate i (t .day))) (only-landing _ _) (λ i m e. absurd (given-not-refused e))
+unit-refuses Monthly n h t s = only-then 1 (landing 119987 (pos (monthIndex t) +ℤ n)) (λ i. given (monthDate i (t .day))) (only-landing _ _) (λ i. only-given 1 (monthDate i (t .day)))
 unit-refuses Annual n h t s =
-    only-then (landing 9999 (pos (t .year) +ℤ n)) (λ y. existingDate (record { year = y; month = t .month; day = t .day })) (only-landing _ _)
-    (λ y. only-unless (isDate (record { year = y; month = t .month; day = t .day })) (record { year = y; month = t .month; day = t .day }))
+    only-then 1 (landing 9999 (pos (t .year) +ℤ n)) (λ y. existingDate (record { year = y; month = t .month; day = t .day })) (only-landing _ _)
+    (λ y. only-unless 1 (isDate (record { year = y; month = t .month; day = t .day })) _ (only-given 1 (record { year = y; month = t .month; day = t .day })))
 
 -- a step that is refused at all is refused with 1, but for B without a table
-pub step-refuses : (p : TimePeriod) (h : Holidays) (t : Date) → served (p .unit) h ≡ true → OnlyOne (stepped p h t)
+pub step-refuses : (p : TimePeriod) (h : Holidays) (t : Date) → served (p .unit) h ≡ true → Only 1 (stepped p h t)
 step-refuses p h t s = unit-refuses (p .unit) (p .num) h t s

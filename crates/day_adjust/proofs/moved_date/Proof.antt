@@ -1,18 +1,13 @@
 -- `day_adjust::moved_date` meets its contract: each rule has its case.
 -- Assumes nothing.
-use mathlib.Core.Path.{_≡_, refl, sym, _∙_, ap}
+use mathlib.Core.Path.{sym, _∙_, ap}
 use borrow.Author.Needs.{needs}
-use Rattle.paper.specs.Outcome.{Outcome, given, refused, andThen}
-use Rattle.calendar.specs.declared.Date.{Date}
+use Rattle.paper.specs.Outcome.{given}
+use Rattle.paper.proofs.Outcomes.{then-same}
 use Rattle.day_adjust.specs.Adjustment.{nextDate, modifiedDate, movedDate}
 use Rattle.day_adjust.specs.declared.DayAdjust.{DayAdjust}
 use Rattle.day_adjust.proofs.moved_date.Statement.{statement}
 use Rattle.day_adjust.proofs.moved_date.Tie as tie
-
--- what is given stays as it is
-then-all : (o : Outcome Date) → andThen o given ≡ o
-then-all (given u) = refl
-then-all (refused k) = refl
 
 enum-told : tie.Need-enum-told
 enum-told c = search needs
@@ -43,7 +38,7 @@ returns c =
 returns-2 : tie.Need-returns-2
 returns-2 c =
     let s = c .before .before .before .before in
-    c .ahead-date .ensures ∙ then-all (nextDate (s .args .table .now) (s .args .n)) ∙ ap (λ (r : DayAdjust). movedDate r (s .args .t) (s .args .n) (s .args .table .now)) (sym (c .before .enum-told2 .given .1))
+    c .ahead-date .ensures ∙ then-same (nextDate (s .args .table .now) (s .args .n)) ∙ ap (λ (r : DayAdjust). movedDate r (s .args .t) (s .args .n) (s .args .table .now)) (sym (c .before .enum-told2 .given .1))
 
 returns-3 : tie.Need-returns-3
 returns-3 c =

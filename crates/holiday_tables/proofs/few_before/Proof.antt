@@ -7,26 +7,27 @@ use mathlib.Core.Logic.{⊎-elim}
 use native.Mathlib.Omega.{arith}
 use lib.ListN.{length, drop}
 use lib.Dec.{eqb, leb}
-use borrow.Author.Tests.{eq-eqb, ne-eqb}
+use borrow.Author.Tests.{eq-eqb, ne-eqb, lt-ltb, le-ltb}
 use borrow.Author.Needs.{needs}
 use Rattle.paper.specs.Outcome.{both}
+use Rattle.paper.proofs.Lists.{head-at, Passed, passed-none, passed-yes, passed-no, passed-all}
 use Rattle.holidays.specs.Table.{ascendsFrom, ascending}
 use Rattle.holidays.specs.Search.{Splits}
 use Rattle.holidays.proofs.Table.{table-is}
 use Rattle.holiday_tables.proofs.Judging.{not-later, later, past-the-end, within-the-end}
-use Rattle.holiday_tables.proofs.Counted.{below, one-more, no-more, all-counted, counted-place}
+use Rattle.holiday_tables.proofs.Counted.{isBelow, counted-place}
 use Rattle.holiday_tables.proofs.few_before.Statement.{statement}
 use Rattle.holiday_tables.proofs.few_before.Tie as tie
 
 abbrev Inv-loop : tie.InvT-loop
 Inv-loop table n wrong₀ before₀ last₀ i₀ wrong before last i =
-    (i ≤ length table) × (wrong ≤ i) × (before ≤ i) × (before + below n (drop i table) ≡ below n table) × (ascending table ≡ both (eqb wrong 0) (both (leb last 3652059) (ascendsFrom (last + 1) (drop i table))))
+    Passed (isBelow n) table i before × (wrong ≤ i) × (ascending table ≡ both (eqb wrong 0) (both (leb last 3652059) (ascendsFrom (last + 1) (drop i table))))
 
 abbrev μ-loop : tie.MeasureT-loop
 μ-loop table n wrong₀ before₀ last₀ i₀ wrong before last i = length table - i
 
 loop-holds : tie.Need-loop-holds Inv-loop μ-loop
-loop-holds c = (zero-le, zero-le, zero-le, omega arith, refl)
+loop-holds c = (passed-none _ _, zero-le, refl)
 
 mul-at : tie.Need-mul-at Inv-loop μ-loop
 mul-at c = omega arith
@@ -52,16 +53,14 @@ loop-again c =
     let s = c .before .before .before .before .before in
     let t = s .args .table .now in
     let in-table = c .before .before .before .loop-test .taken in (
-      omega arith,
-      ⊎-elim (λ w. rw (w .1) (omega arith)) (λ w. rw (w .1) (omega arith)) (c .before .if1 .came),
-      ⊎-elim (λ w. rw (w .1) (omega arith)) (λ w. rw (w .1) (omega arith)) (c .if2 .came),
       ⊎-elim
-          (λ w. rw (w .1) (one-more t (s .args .n) (l .i) (l .before) (l .inv .3) in-table (w .0 .taken)))
-          (λ w. rw (w .1) (no-more t (s .args .n) (l .i) (l .before) (l .inv .3) in-table (w .0 .left)))
+          (λ w. rw (w .1) (passed-yes (isBelow (s .args .n)) t (l .i) (l .before) _ in-table (head-at t (l .i) 0 in-table) (l .inv .0) (lt-ltb _ _ (w .0 .taken))))
+          (λ w. rw (w .1) (passed-no (isBelow (s .args .n)) t (l .i) (l .before) _ in-table (head-at t (l .i) 0 in-table) (l .inv .0) (le-ltb _ _ (w .0 .left))))
           (c .if2 .came),
+      ⊎-elim (λ w. rw (w .1) (omega arith)) (λ w. rw (w .1) (omega arith)) (c .before .if1 .came),
       ⊎-elim
-          (λ w. rw (w .1, ne-eqb (l .wrong + 1) 0 (λ e. omega arith)) (not-later t (eqb (l .wrong) 0) (l .last) (l .i) (l .inv .4) in-table (w .0 .taken)))
-          (λ w. rw (w .1) (later t (eqb (l .wrong) 0) (l .last) (l .i) (l .inv .4) in-table (w .0 .left)))
+          (λ w. rw (w .1, ne-eqb (l .wrong + 1) 0 (λ e. omega arith)) (not-later t (eqb (l .wrong) 0) (l .last) (l .i) (l .inv .2) in-table (w .0 .taken)))
+          (λ w. rw (w .1) (later t (eqb (l .wrong) 0) (l .last) (l .i) (l .inv .2) in-table (w .0 .left)))
           (c .before .if1 .came),
     )
 
@@ -71,7 +70,7 @@ returns c =
     let t = c .before .before .before .args .table .now in
     record {
       taken = λ h. absurd (omega arith);
-      refused = λ h. table-is t (omega arith) ∙ sym (past-the-end t (eqb (l .wrong) 0) (l .last) (l .i) (l .inv .4) (c .before .loop-test .left) (c .if3 .taken));
+      refused = λ h. table-is t (omega arith) ∙ sym (past-the-end t (eqb (l .wrong) 0) (l .last) (l .i) (l .inv .2) (c .before .loop-test .left) (c .if3 .taken));
     }
 
 returns-2 : tie.Need-returns-2 Inv-loop μ-loop
@@ -80,7 +79,7 @@ returns-2 c =
     let t = c .before .before .before .before .args .table .now in
     record {
       taken = λ h. absurd (omega arith);
-      refused = λ h. table-is t (omega arith) ∙ sym (within-the-end t (eqb (l .wrong) 0) (l .last) (l .i) (l .inv .4) (c .before .before .loop-test .left) (c .before .if3 .left)) ∙ ne-eqb (l .wrong) 0 (λ e. omega arith);
+      refused = λ h. table-is t (omega arith) ∙ sym (within-the-end t (eqb (l .wrong) 0) (l .last) (l .i) (l .inv .2) (c .before .before .loop-test .left) (c .before .if3 .left)) ∙ ne-eqb (l .wrong) 0 (λ e. omega arith);
     }
 
 cast-result : tie.Need-cast-result Inv-loop μ-loop
@@ -91,9 +90,9 @@ returns-3 c =
     let l = c .before .before .before .loop in
     let s = c .before .before .before .before in
     let t = s .args .table .now in
-    let ascends : ascending t ≡ true = sym (within-the-end t (eqb (l .wrong) 0) (l .last) (l .i) (l .inv .4) (c .before .before .loop-test .left) (c .before .if3 .left)) ∙ eq-eqb (l .wrong) 0 (omega arith) in
+    let ascends : ascending t ≡ true = sym (within-the-end t (eqb (l .wrong) 0) (l .last) (l .i) (l .inv .2) (c .before .before .loop-test .left) (c .before .if3 .left)) ∙ eq-eqb (l .wrong) 0 (omega arith) in
     record {
-      taken = λ h. (table-is t (omega arith) ∙ ascends, subst (Splits t (s .args .n)) (sym (all-counted t (s .args .n) (l .i) (l .before) (l .inv .3) (c .before .before .loop-test .left))) (counted-place t (s .args .n) ascends));
+      taken = λ h. (table-is t (omega arith) ∙ ascends, subst (Splits t (s .args .n)) (sym (passed-all (isBelow (s .args .n)) t (l .i) (l .before) (c .before .before .loop-test .left) (l .inv .0))) (counted-place t (s .args .n) ascends));
       refused = λ h. absurd (omega arith);
     }
 

@@ -1,12 +1,13 @@
--- Parts of a list, as a slice gives them, and what holds of every element; over any kind of element. Assumes nothing.
+-- Parts of a list, as a slice gives them, what holds of every element, and a list by its rule; over any kind of element. Assumes nothing.
 use Prim.Native.Nat.{ℕ, zero, suc, _+_, _-_, _≤_, _<_}
-use mathlib.Core.Path.{_≡_, sym, ap, _∙_}
+use mathlib.Core.Path.{_≡_, refl, sym, ap, _∙_}
 use mathlib.Core.List.{List, [], _∷_, _++_}
+use native.Mathlib.Nat.{add-zero}
 use native.Mathlib.Numerals.{add-one}
 use native.Mathlib.Omega.{arith}
 use lib.ListN.{length, take, drop, getD, length-drop}
-use lib.Seq.{take-all, drop-cons, drop-drop}
-use Rattle.paper.specs.Lists.{Every}
+use lib.Seq.{take-all, take-suc, drop-cons, drop-drop}
+use Rattle.paper.specs.Lists.{Every, valuesFrom}
 
 module _ {A : Type 0} where
   -- a part up to the end is all from its start on
@@ -16,6 +17,13 @@ module _ {A : Type 0} where
   -- the rest from a place on begins with what stands there
   pub head-at : (l : List A) (i : ℕ) (d : A) → i < length l → drop i l ≡ getD l i d ∷ drop (i + 1) l
   head-at l i d h = rw (add-one i) (drop-cons l i d h)
+
+  -- and the part before it, with what stands there, is the part that ends behind it
+  pub take-more : (l : List A) (i : ℕ) (d : A) → i < length l → take (i + 1) l ≡ take i l ++ (getD l i d ∷ [])
+  take-more l i d h = rw (add-one i) (take-suc l i d h)
+
+  pub take-last : (l : List A) (i : ℕ) (d : A) → 1 ≤ i → i ≤ length l → take i l ≡ take (i - 1) l ++ (getD l (i - 1) d ∷ [])
+  take-last l i d h k = let e : i - 1 + 1 ≡ i = omega arith in ap (λ (j : ℕ). take j l) (sym e) ∙ take-more l (i - 1) d (omega arith)
 
   -- lists that agree from a place on agree from each later one on
   pub tails-agree : (l m : List A) (i j : ℕ) → i ≤ j → drop i l ≡ drop i m → drop j l ≡ drop j m
@@ -43,3 +51,24 @@ module _ {A : Type 0} (P : A → Type 0) where
   every-at [] k d a h = absurd (omega arith)
   every-at (x ∷ l) zero d a h = a .0
   every-at (x ∷ l) (suc k) d a h = every-at l k d (a .1) (omega arith)
+
+-- a list by its rule, as a loop that stands at i of n leaves it, and at each place
+module _ {A : Type 0} (f : ℕ → A) where
+  pub length-values : (i n : ℕ) → length (valuesFrom f i n) ≡ n
+  unfolding valuesFrom
+  length-values i zero = refl
+  length-values i (suc n) = ap suc (length-values (i + 1) n)
+
+  pub values-none : (i n : ℕ) → n ≤ i → valuesFrom f i (n - i) ≡ []
+  unfolding valuesFrom
+  values-none i n h = let e : n - i ≡ 0 = omega arith in rw (e)
+
+  pub values-next : (i n : ℕ) → i < n → valuesFrom f i (n - i) ≡ f i ∷ valuesFrom f (i + 1) (n - (i + 1))
+  unfolding valuesFrom
+  values-next i n h = let e : n - i ≡ suc (n - (i + 1)) = omega arith in rw (e)
+
+  pub value-at : (i n k : ℕ) (d : A) → k < n → getD (valuesFrom f i n) k d ≡ f (i + k)
+  unfolding valuesFrom
+  value-at i zero k d h = absurd (omega arith)
+  value-at i (suc n) zero d h = rw add-zero
+  value-at i (suc n) (suc k) d h = value-at (i + 1) n k d (omega arith) ∙ ap f (omega arith)

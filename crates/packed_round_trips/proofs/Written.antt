@@ -15,7 +15,7 @@ use Rattle.paper.specs.Outcome.{given, andThen, both}
 use Rattle.paper.proofs.Lists.{every-append}
 use Rattle.paper.proofs.Outcomes.{given-injective, both-true, unless-given, then-given}
 use Rattle.bit_fields.specs.Bits.{inBits, fieldBits, fieldsBits, bitsOf, field, AreBytes}
-use Rattle.bit_fields.proofs.Bits.{field-found}
+use Rattle.bit_fields.proofs.Bits.{fields-are, field-found}
 use Rattle.holidays.specs.Table.{ascendsFrom, isTable}
 use Rattle.holidays.proofs.Table.{table-ascends, table-most}
 use Rattle.bond.specs.Notes.{noteChecks}
@@ -31,7 +31,7 @@ use Rattle.packed_raw.specs.Fits.{Fits, AllFit, RawFits, Packable}
 use Rattle.packed_raw.proofs.Accepted.{raw-fits}
 use Rattle.packed_write.specs.Fields.{headFields, middleFields, tailFields, rawFields, dayFields, tableFields, zerosBehind, rawBytes, recordBytes}
 use Rattle.packed_write.specs.Writing.{packedNote}
-use Rattle.packed_write.proofs.Fields.{fields-are, length-record, whole-bits, whole-bytes, bytes-length}
+use Rattle.packed_write.proofs.Fields.{length-record, whole-bits, whole-bytes, bytes-length}
 use Rattle.packed_round_trips.specs.RoundTrips.{InMachine}
 use Rattle.packed_round_trips.proofs.Found.{Found, found-in, found-first, found-later, raw-read, days-read}
 use Rattle.packed_round_trips.proofs.Notes.{note-read}
@@ -47,7 +47,7 @@ raw-all r h =
     (h .rate, every-append Fits (lettersFields (r .letters)) (inBits 10 (r .spare) ∷ []) (h .letters) (h .spare, omega arith)))
 
 days-fit : (low : ℕ) (t : List ℕ) → ascendsFrom low t ≡ true → AllFit (dayFields t)
-unfolding dayFields ascendsFrom
+unfolding ascendsFrom
 days-fit low [] e = omega arith
 days-fit low (d ∷ t) e =
     let p = both-true (leb low d) (both (leb d 3652059) (ascendsFrom (d + 1) t)) e in

@@ -2,14 +2,14 @@
 use Prim.Native.Nat.{ℕ, zero, suc, _+_, _-_, _*_, _/_, _%_, _^_, _≤_, _<_}
 use mathlib.Core.Path.{_≡_, sym, ap, _∙_, subst}
 use mathlib.Core.List.{List, [], _∷_, _++_, append-nil}
-use native.Mathlib.Nat.{mul-assoc, mul-right-comm, add-mul, sub-self, zero-add, add-zero, mul-le-mul-right}
+use native.Mathlib.Nat.{mul-assoc, mul-right-comm, add-mul, sub-self, add-zero, mul-le-mul-right}
 use native.Mathlib.Omega.{arith}
 use lib.Pow.{pow-add}
 use lib.ListN.{length, take, set, getD}
 use lib.Seq.{take-set-le, take-length, take-at, drop-length, getD-at, getD-take, take-take}
 use Rattle.text.specs.Writing.{digits, put}
 use Rattle.text_lengths.proofs.Digits.{length-digits}
-use Rattle.text.proofs.Putting.{put-last, put-none}
+use Rattle.text.proofs.Putting.{put-last, put-none, put-front}
 use Rattle.big_digits.specs.BigDigits.{Multiplied}
 
 -- n with its last k digits cut off
@@ -33,8 +33,7 @@ abbrev pub Half : ℕ → List ℕ → ℕ → ℕ → ℕ → ℕ → Type 0
 Half m o i c k n = (take i o ≡ digits i (cut (k - i) n)) × (put o 0 (digits i (cut (k - i) n * m + c)) ≡ digits k (n * m))
 
 put-all : (d xs : List ℕ) → length xs ≡ length d → put d 0 xs ≡ xs
-unfolding put
-put-all d xs e = rw (zero-add (length xs), e, drop-length d) (append-nil xs)
+put-all d xs e = put-front d xs (length d) e ∙ rw (drop-length d) (append-nil xs)
 
 pub half-start : (m : ℕ) (o : List ℕ) (n : ℕ) → o ≡ digits (length o) n → Half m o (length o) 0 (length o) n
 unfolding cut

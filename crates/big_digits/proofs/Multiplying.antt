@@ -2,20 +2,17 @@
 use Prim.Native.Nat.{ℕ, zero, suc, _+_, _-_, _*_, _/_, _%_, _^_, _≤_, _<_}
 use mathlib.Core.Path.{_≡_, sym, ap, _∙_, subst}
 use mathlib.Core.List.{List, [], _∷_, _++_, append-nil}
-use native.Mathlib.Nat.{mul-assoc, mul-right-comm, add-mul, sub-self, zero-add, add-zero, mul-le-mul-right}
+use native.Mathlib.Nat.{mul-assoc, mul-right-comm, add-mul, sub-self, add-zero, div-one, mul-le-mul-right}
+use native.Mathlib.Numerals.{add-one}
 use native.Mathlib.Omega.{arith}
 use lib.Pow.{pow-add}
 use lib.ListN.{length, take, set, getD}
 use lib.Seq.{take-set-le, take-length, take-at, drop-length, getD-at, getD-take, take-take}
+use Rattle.paper.proofs.Numbers.{digits-apart}
 use Rattle.text.specs.Writing.{digits, put}
 use Rattle.text_lengths.proofs.Digits.{length-digits}
-use Rattle.text.proofs.Putting.{put-last, put-none}
+use Rattle.text.proofs.Putting.{put-last, put-none, put-front}
 use Rattle.big_digits.specs.BigDigits.{Multiplied}
-
--- n with its last k digits cut off
-unfoldable pub cut : ℕ → ℕ → ℕ
-cut zero n = n
-cut (suc k) n = cut k n / 10
 
 -- where the first suc j elements are the digits of v, element j is the last of them, and the first j are those of v / 10
 last-digit : (l : List ℕ) (j v : ℕ) → j < length l → take (suc j) l ≡ digits (suc j) v → getD l j 0 ≡ 48 + v % 10
@@ -30,16 +27,14 @@ first-digits l j v e =
 
 -- half way: the first i elements of o are still the old digits, and with the new ones in their place all is done; c is the carry
 abbrev pub Half : ℕ → List ℕ → ℕ → ℕ → ℕ → ℕ → Type 0
-Half m o i c k n = (take i o ≡ digits i (cut (k - i) n)) × (put o 0 (digits i (cut (k - i) n * m + c)) ≡ digits k (n * m))
+Half m o i c k n = (take i o ≡ digits i (n / 10 ^ (k - i))) × (put o 0 (digits i (n / 10 ^ (k - i) * m + c)) ≡ digits k (n * m))
 
 put-all : (d xs : List ℕ) → length xs ≡ length d → put d 0 xs ≡ xs
-unfolding put
-put-all d xs e = rw (zero-add (length xs), e, drop-length d) (append-nil xs)
+put-all d xs e = put-front d xs (length d) e ∙ rw (drop-length d) (append-nil xs)
 
 pub half-start : (m : ℕ) (o : List ℕ) (n : ℕ) → o ≡ digits (length o) n → Half m o (length o) 0 (length o) n
-unfolding cut
 half-start m o n e =
-    rw (sub-self (length o), add-zero (n * m)) (take-length o ∙ e, put-all o (digits (length o) (n * m)) (length-digits (length o) (n * m)))
+    rw (sub-self (length o), div-one n, add-zero (n * m)) (take-length o ∙ e, put-all o (digits (length o) (n * m)) (length-digits (length o) (n * m)))
 
 -- one digit: v times m with the carry, cut into its last digit and the rest
 carried : (m v d c : ℕ) → d ≡ 48 + v % 10 → v * m + c ≡ d % 16 * m + c + v / 10 * m * 10
@@ -50,10 +45,10 @@ carried m v d c e =
     rw (low) (omega arith)
 
 half-more : (m : ℕ) (o : List ℕ) (j c k n t : ℕ) → suc j ≤ k → length o ≡ k → t ≡ getD o j 0 % 16 * m + c → Half m o (suc j) c k n → Half m (set o j (48 + t % 10)) j (t / 10) k n
-unfolding cut digits
+unfolding digits
 half-more m o j c k n t l e u h =
-    let v : ℕ = cut (k - suc j) n in
-    let s : k - j ≡ suc (k - suc j) = omega arith in
+    let v : ℕ = n / 10 ^ (k - suc j) in
+    let s : n / 10 ^ (k - j) ≡ v / 10 = sym (rw (add-one j) at (digits-apart 10 n k j l)) in
     let g : getD o j 0 ≡ 48 + v % 10 = last-digit o j v (omega arith) (h .0) in
     let w : v * m + c ≡ t + v / 10 * m * 10 = carried m v (getD o j 0) c g ∙ ap (λ (x : ℕ). x + v / 10 * m * 10) (sym u) in
     let rest : v / 10 * m + t / 10 ≡ (v * m + c) / 10 = omega arith in

@@ -2,8 +2,8 @@
 -- Assumes nothing.
 use Prim.Native.Nat.{ℕ, zero, suc, _+_, _-_, _*_, _/_, _%_, _^_, _≤_, _<_}
 use mathlib.Core.Path.{_≡_, refl, sym, ap, subst, _∙_}
-use mathlib.Core.List.{List, [], _∷_, _++_, append-assoc, append-nil}
-use native.Mathlib.Nat.{zero-add, sub-zero, add-assoc, add-mul, mul-assoc, mod-eq-of-lt, lt-of-lt-of-le}
+use mathlib.Core.List.{List, [], _∷_, _++_, append-assoc, append-nil, map, map-append}
+use native.Mathlib.Nat.{zero-add, sub-zero, add-assoc, add-mul, mul-zero, mul-suc, mul-assoc, mod-eq-of-lt, lt-of-lt-of-le}
 use native.Mathlib.Omega.{arith}
 use lib.Arith.{digits-div, digits-mod}
 use lib.Pow.{pow-add, pow-mono}
@@ -12,7 +12,7 @@ use lib.Seq.{take-suc, take-add, take-at, drop-at, drop-nil, drop-drop, drop-app
 use Rattle.paper.specs.Lists.{Every}
 use Rattle.paper.proofs.Lists.{every-append, every-take, every-drop}
 use Rattle.text_lengths.proofs.Numerals.{numeral, worth, Digit, length-numeral, numeral-are, numeral-split, worth-append, worth-value, worth-below, worth-numeral, numeral-worth}
-use Rattle.bit_fields.specs.Bits.{Field, fieldBits, fieldsBits, continuedBits, bitsNumber, bitsOf, field, bytesNumber, bytesOf, AreBytes}
+use Rattle.bit_fields.specs.Bits.{Field, inBits, fieldBits, fieldsBits, continuedBits, bitsNumber, bitsOf, field, bytesNumber, bytesOf, AreBytes}
 
 -- ---- bits are numerals to the base two
 
@@ -74,26 +74,50 @@ field-cut w n =
     let l : length (fieldBits w n) ≡ w = length-field w n in
     ap (fieldBits w) (sym (number-cut w n)) ∙ ap (λ (k : ℕ). fieldBits k (bitsNumber (fieldBits w n))) (sym l) ∙ field-number (fieldBits w n) (field-bits w n)
 
+-- ---- fields one after the other
+
+pub fields-append : (fs gs : List Field) → fieldsBits (fs ++ gs) ≡ fieldsBits fs ++ fieldsBits gs
+unfolding fieldsBits
+fields-append [] gs = refl
+fields-append (f ∷ fs) gs = rw (fields-append fs gs) (sym (append-assoc (fieldBits (f .width) (f .number)) (fieldsBits fs) (fieldsBits gs)))
+
+pub fields-are : (fs : List Field) → AreBits (fieldsBits fs)
+unfolding fieldsBits
+fields-are [] = omega arith
+fields-are (f ∷ fs) = every-append Bit (fieldBits (f .width) (f .number)) (fieldsBits fs) (field-bits (f .width) (f .number)) (fields-are fs)
+
+-- how many bits they take
+abbrev pub widths : List Field → ℕ
+widths [] = 0
+widths (f ∷ fs) = f .width + widths fs
+
+pub length-fields : (fs : List Field) → length (fieldsBits fs) ≡ widths fs
+unfolding fieldsBits
+length-fields [] = refl
+length-fields (f ∷ fs) = omega (arith, length-append (fieldBits (f .width) (f .number)) (fieldsBits fs), length-field (f .width) (f .number), length-fields fs)
+
+-- where each is w wide
+pub same-widths : (w : ℕ) (s : List ℕ) → widths (map (inBits w) s) ≡ w * length s
+same-widths w [] = sym (mul-zero w)
+same-widths w (n ∷ s) = rw (mul-suc w (length s)) (omega (arith, same-widths w s))
+
 -- ---- bytes as bits
 
 pub length-bits : (s : List ℕ) → length (bitsOf s) ≡ 8 * length s
 unfolding bitsOf
-length-bits [] = refl
-length-bits (b ∷ s) = omega (arith, length-append (fieldBits 8 b) (bitsOf s), length-field 8 b, length-bits s)
+length-bits s = length-fields (map (inBits 8) s) ∙ same-widths 8 s
 
 pub bits-are : (s : List ℕ) → AreBits (bitsOf s)
 unfolding bitsOf
-bits-are [] = omega arith
-bits-are (b ∷ s) = every-append Bit (fieldBits 8 b) (bitsOf s) (field-bits 8 b) (bits-are s)
+bits-are s = fields-are (map (inBits 8) s)
 
 pub bits-of-append : (s t : List ℕ) → bitsOf (s ++ t) ≡ bitsOf s ++ bitsOf t
 unfolding bitsOf
-bits-of-append [] t = refl
-bits-of-append (b ∷ s) t = rw (bits-of-append s t) (sym (append-assoc (fieldBits 8 b) (bitsOf s) (bitsOf t)))
+bits-of-append s t = ap fieldsBits (map-append (inBits 8) s t) ∙ fields-append (map (inBits 8) s) (map (inBits 8) t)
 
 -- whole bytes are whole eights of bits
 pub bits-of-drop : (i : ℕ) (s : List ℕ) → drop (8 * i) (bitsOf s) ≡ bitsOf (drop i s)
-unfolding bitsOf
+unfolding bitsOf fieldsBits
 bits-of-drop zero s = refl
 bits-of-drop (suc i) [] = drop-nil (8 * suc i)
 bits-of-drop (suc i) (b ∷ s) =
@@ -109,7 +133,7 @@ bits-of-take k s h =
 
 -- bytes are the bytes of their bits
 pub bytes-back : (s : List ℕ) → AreBytes s → bytesOf (length s) (bitsOf s) ≡ s
-unfolding bytesOf bitsOf
+unfolding bytesOf bitsOf fieldsBits
 bytes-back [] h = refl
 bytes-back (b ∷ s) h =
     let first : take 8 (fieldBits 8 b ++ bitsOf s) ≡ fieldBits 8 b = take-at (fieldBits 8 b) (bitsOf s) 8 (length-field 8 b) in
@@ -123,7 +147,7 @@ length-bytes (suc k) s = ap suc (length-bytes k (drop 8 s))
 
 -- and bits, eight by eight, are the bits of their bytes
 pub bits-back : (k : ℕ) (s : List ℕ) → AreBits s → length s ≡ 8 * k → bitsOf (bytesOf k s) ≡ s
-unfolding bytesOf bitsOf
+unfolding bytesOf bitsOf fieldsBits
 bits-back zero [] h e = refl
 bits-back zero (b ∷ s) h e = absurd (omega arith)
 bits-back (suc k) s h e =
@@ -142,12 +166,12 @@ bytes-are (suc k) s h e =
 -- ---- reading a field by whole bytes
 
 pub bytes-none : (s : List ℕ) (i : ℕ) → bytesNumber s i 0 ≡ 0
-unfolding bitsOf continuedBits
+unfolding bitsOf fieldsBits continuedBits
 bytes-none s i = refl
 
 pub one-byte : (b : ℕ) → bitsOf (b ∷ []) ≡ fieldBits 8 b
 unfolding bitsOf
-one-byte b = append-nil (fieldBits 8 b)
+one-byte b = one-field (inBits 8 b)
 
 pub bytes-more : (s : List ℕ) (i k : ℕ) → i + k < length s → getD s (i + k) 0 < 256 → bytesNumber s i (suc k) ≡ bytesNumber s i k * 256 + getD s (i + k) 0
 bytes-more s i k h l =

@@ -2,7 +2,7 @@
 -- Assumes nothing.
 use mathlib.Core.Path.{_≡_, refl}
 use mathlib.Core.List.{[], _∷_, _++_}
-use Rattle.bit_fields.specs.Bits.{fieldBits, continuedBits, bitsOf, field, bytesOf}
+use Rattle.bit_fields.specs.Bits.{fieldBits, fieldsBits, continuedBits, bitsOf, field, bytesOf}
 
 record Fields : Type 0 where
   first-bit : field (90 ∷ 3 ∷ []) 0 1 ≡ 0
@@ -13,5 +13,5 @@ record Fields : Type 0 where
   back : bytesOf 2 (fieldBits 4 5 ++ (fieldBits 9 320 ++ fieldBits 3 3)) ≡ 90 ∷ 3 ∷ []
 
 fields : Fields
-unfolding fieldBits continuedBits bitsOf field bytesOf
+unfolding fieldBits fieldsBits continuedBits bitsOf field bytesOf
 fields = record { first-bit = refl; second-bit = refl; over-the-seam = refl; whole = refl; no-bits = refl; back = refl }

@@ -3,7 +3,7 @@
 use Prim.Native.Nat.{ℕ, _+_, _-_, _*_, _/_, _%_, _^_, _≤_, _<_}
 use mathlib.Core.Path.{_≡_, refl, sym, ap, _∙_}
 use mathlib.Core.List.{List, [], _∷_, _++_, append-assoc, append-nil}
-use native.Mathlib.Nat.{zero-add, mod-lt, lt-of-lt-of-le}
+use native.Mathlib.Nat.{mod-lt, lt-of-lt-of-le}
 use native.Mathlib.Numerals.{add-one}
 use native.Mathlib.Omega.{arith}
 use lib.Pow.{pow-add, pow-pos, pow-mono, shr-lt}
@@ -16,6 +16,7 @@ use Rattle.bit_fields.specs.Pens.{Held, putSoFar, Drew}
 use Rattle.bit_fields.specs.declared.Pen.{Pen}
 use Rattle.bit_fields.proofs.Bits.{length-field, one-field, field-split, field-cut, bits-of-append, one-byte, bytes-back, length-bytes}
 use Rattle.text.specs.Writing.{put}
+use Rattle.text.proofs.Putting.{put-front}
 
 -- what has gone out since the place, the count and the bits of the start
 pub record Flushed (out₀ : List ℕ) (place₀ count₀ bits₀ : ℕ) (out : List ℕ) (place count bits : ℕ) : Type 0 where
@@ -39,13 +40,15 @@ module _ {out₀ : List ℕ} {place₀ count₀ bits₀ : ℕ} {out : List ℕ} 
   pub flushed-byte : bits / 2 ^ (count - 8) < 256
   flushed-byte = let e : 8 + (count - 8) ≡ count = omega arith in shr-lt 8 (count - 8) (rw (e) (f .below))
 
+  next-taken : (v : ℕ) → take (place + 1) (set out place v) ≡ take place out ++ (v ∷ [])
+  next-taken v = rw (add-one place) (take-suc-set out place v flushed-place)
+
   next-drawn : bitsOf (take (place + 1) (set out place (bits / 2 ^ (count - 8)))) ++ fieldBits (count - 8) (bits % 2 ^ (count - 8)) ≡ bitsOf (take place out) ++ fieldBits count bits
   next-drawn =
       let v : ℕ = bits / 2 ^ (count - 8) in
       let e : 8 + (count - 8) ≡ count = omega arith in
       let front : bitsOf (take (place + 1) (set out place v)) ≡ bitsOf (take place out) ++ fieldBits 8 v =
-      ap (λ (k : ℕ). bitsOf (take k (set out place v))) (add-one place)
-      ∙ ap bitsOf (take-suc-set out place v flushed-place)
+      ap bitsOf (next-taken v)
       ∙ bits-of-append (take place out) (v ∷ [])
       ∙ ap (λ (t : List ℕ). bitsOf (take place out) ++ t) (one-byte v) in
       let both : fieldBits 8 v ++ fieldBits (count - 8) bits ≡ fieldBits count bits = sym (field-split 8 (count - 8) bits) ∙ ap (λ (k : ℕ). fieldBits k bits) e in
@@ -57,8 +60,7 @@ module _ {out₀ : List ℕ} {place₀ count₀ bits₀ : ℕ} {out : List ℕ} 
 
   next-bytes : (v : ℕ) → v ≡ bits / 2 ^ (count - 8) → AreBytes (take place out) → AreBytes (take (place + 1) (set out place v))
   next-bytes v e a =
-      let longer : take (place + 1) (set out place v) ≡ take place out ++ (v ∷ []) = ap (λ (k : ℕ). take k (set out place v)) (add-one place) ∙ take-suc-set out place v flushed-place in
-      rw (longer) (every-append (λ b. b < 256) (take place out) (v ∷ []) a (rw (e) flushed-byte, omega arith))
+      rw (next-taken v) (every-append (λ b. b < 256) (take place out) (v ∷ []) a (rw (e) flushed-byte, omega arith))
 
   pub flushed-more : (v b : ℕ) → v ≡ bits / 2 ^ (count - 8) → b ≡ bits % 2 ^ (count - 8) → Flushed out₀ place₀ count₀ bits₀ (set out place v) (place + 1) (count - 8) b
   flushed-more v b p q = record {
@@ -115,10 +117,6 @@ no-bits : (n : ℕ) → fieldBits 0 n ≡ []
 unfolding fieldBits
 no-bits n = refl
 
-put-front : (d t : List ℕ) (n : ℕ) → length t ≡ n → t ++ drop n d ≡ put d 0 t
-unfolding put
-put-front d t n e = rw (zero-add (length t), e)
-
 -- where the fields end at a byte's end, their bytes stand in front of the old ones
 pub inked-all : (d e : List ℕ) (p : Pen) (s : List ℕ) (k : ℕ) → Inked d e p s → length s ≡ 8 * k → k ≤ length d → (e ≡ put d 0 (bytesOf k s)) × (p .place ≡ k)
 inked-all d e p s k i l h =
@@ -127,4 +125,4 @@ inked-all d e p s k i l h =
     let front : bitsOf (take k e) ≡ s = sym (append-nil (bitsOf (take k e))) ∙ (rw (whole, none, no-bits (p .bits)) at (i .drawn)) in
     let size : length (take k e) ≡ k = length-take-le k e (omega (arith, i .same-length)) in
     let bytes : bytesOf k s ≡ take k e = ap (bytesOf k) (sym front) ∙ ap (λ (n : ℕ). bytesOf n (bitsOf (take k e))) (sym size) ∙ bytes-back (take k e) (rw (whole) at (i .bytes)) in
-    (sym (take-append-drop k e) ∙ rw (rw (whole) at (i .past), ← bytes) (put-front d (bytesOf k s) k (length-bytes k s)), whole)
+    (sym (take-append-drop k e) ∙ rw (rw (whole) at (i .past), ← bytes) (sym (put-front d (bytesOf k s) k (length-bytes k s))), whole)

@@ -1,7 +1,7 @@
 -- Numbers in fields of bits, the most significant bit first.
 -- Assumes nothing.
 use Prim.Native.Nat.{ℕ, zero, suc, _+_, _*_, _/_, _%_, _<_}
-use mathlib.Core.List.{List, [], _∷_, _++_}
+use mathlib.Core.List.{List, [], _∷_, _++_, map}
 use lib.ListN.{take, drop}
 use Rattle.paper.specs.Lists.{Every}
 
@@ -34,8 +34,7 @@ bitsNumber s = continuedBits 0 s
 
 -- the bits of bytes, eight of each
 unfoldable pub bitsOf : List ℕ → List ℕ
-bitsOf [] = []
-bitsOf (b ∷ s) = fieldBits 8 b ++ bitsOf s
+bitsOf s = fieldsBits (map (inBits 8) s)
 
 -- the number in the w bits from place at on
 unfoldable pub field : List ℕ → ℕ → ℕ → ℕ

@@ -5,12 +5,10 @@ use mathlib.Core.Path.{_≡_, refl, sym, _∙_, ap}
 use mathlib.Core.Bool.{true, false}
 use mathlib.Core.List.{List, [], _∷_, _++_, append-assoc, append-nil}
 use native.Mathlib.Omega.{arith}
-use native.Mathlib.Numerals.{add-one}
 use lib.Dec.{eqb}
 use lib.ListN.{length, take, drop, getD, drop-of-length-le}
-use lib.Seq.{take-suc}
 use borrow.Author.Tests.{eq-eqb, ne-eqb}
-use Rattle.paper.proofs.Lists.{head-at}
+use Rattle.paper.proofs.Lists.{head-at, take-more, take-last}
 use Rattle.coupon_text.specs.CouponTexts.{isBlank, trimStart, before, trimEnd, hasDot, upToDot, afterDot, DotAt}
 
 -- leading blanks: at place i they are still to be trimmed
@@ -42,16 +40,12 @@ end-stays (c ∷ s) b h = ap (before c) (end-stays s b h) ∙ kept c s
     kept c [] = refl
     kept c (d ∷ s) = refl
 
-last : (s : List ℕ) (i : ℕ) → 1 ≤ i → i ≤ length s → take i s ≡ take (i - 1) s ++ (getD s (i - 1) 0 ∷ [])
-last s zero h k = absurd (omega arith)
-last s (suc j) h k = let e : suc j - 1 ≡ j = omega arith in rw e (take-suc s j 0 (omega arith))
-
 module _ (s : List ℕ) (i : ℕ) (z : List ℕ) (e : trimEnd (take i s) ≡ z) where
   pub end-less : 1 ≤ i → i ≤ length s → isBlank (getD s (i - 1) 0) ≡ true → trimEnd (take (i - 1) s) ≡ z
-  end-less h k b = sym (ap trimEnd (last s i h k) ∙ end-blank (take (i - 1) s) (getD s (i - 1) 0) b) ∙ e
+  end-less h k b = sym (ap trimEnd (take-last s i 0 h k) ∙ end-blank (take (i - 1) s) (getD s (i - 1) 0) b) ∙ e
 
   pub end-here : 1 ≤ i → i ≤ length s → isBlank (getD s (i - 1) 0) ≡ false → take i s ≡ z
-  end-here h k b = last s i h k ∙ sym (ap trimEnd (last s i h k) ∙ end-stays (take (i - 1) s) (getD s (i - 1) 0) b) ∙ e
+  end-here h k b = take-last s i 0 h k ∙ sym (ap trimEnd (take-last s i 0 h k) ∙ end-stays (take (i - 1) s) (getD s (i - 1) 0) b) ∙ e
 
 pub end-none : (s : List ℕ) (i : ℕ) (z : List ℕ) → trimEnd (take i s) ≡ z → i ≤ 0 → take i s ≡ z
 unfolding trimEnd
@@ -73,10 +67,9 @@ unfolding upToDot hasDot afterDot
 no-dot-more s i n h d =
     let c : eqb (getD s i 0) 46 ≡ false = ne-eqb _ _ d in
     let b = head-at s i 0 h in
-    let t : take (i + 1) s ≡ take i s ++ (getD s i 0 ∷ []) = ap (λ (k : ℕ). take k s) (add-one i) ∙ take-suc s i 0 h in
     record {
       within = omega arith;
-      first = n .first ∙ ap (λ (r : List ℕ). take i s ++ upToDot r) b ∙ rw c (sym (ap (λ (r : List ℕ). r ++ upToDot (drop (i + 1) s)) t ∙ append-assoc (take i s) (getD s i 0 ∷ []) (upToDot (drop (i + 1) s))));
+      first = n .first ∙ ap (λ (r : List ℕ). take i s ++ upToDot r) b ∙ rw c (sym (ap (λ (r : List ℕ). r ++ upToDot (drop (i + 1) s)) (take-more s i 0 h) ∙ append-assoc (take i s) (getD s i 0 ∷ []) (upToDot (drop (i + 1) s))));
       has = n .has ∙ ap hasDot b ∙ rw c;
       after = n .after ∙ ap afterDot b ∙ rw c;
     }

@@ -8,8 +8,9 @@ use native.Mathlib.Omega.{arith}
 use lib.Dec.{eqb}
 use lib.ListN.{length, length-append}
 use borrow.Author.Tests.{ne-eqb, lt-leb, le-leb}
-use Rattle.paper.specs.Lists.{allOf}
+use Rattle.paper.specs.Lists.{Every, allOf}
 use Rattle.paper.specs.Outcome.{given}
+use Rattle.paper.proofs.Lists.{every-append}
 use Rattle.paper.proofs.Outcomes.{both-true}
 use Rattle.reading.specs.Reading.{isDigit, allDigits}
 use Rattle.text.specs.Writing.{paddedText}
@@ -45,29 +46,24 @@ digit-no-dot : (b : ℕ) → isDigit b ≡ true → eqb b 46 ≡ false
 digit-no-dot b h = let k = digit-bounds b h in ne-eqb b 46 (λ e. omega arith)
 
 -- no byte is a blank: nothing is trimmed
-data Visible : List ℕ → Type 0 where
-  none : Visible []
-  more : {b : ℕ} {s : List ℕ} → isBlank b ≡ false → Visible s → Visible (b ∷ s)
+abbrev Visible : List ℕ → Type 0
+Visible s = Every (λ b. isBlank b ≡ false) s
 
 digits-visible : (s : List ℕ) → allDigits s ≡ true → Visible s
 unfolding allOf
-digits-visible [] h = none
-digits-visible (b ∷ s) h = let k = both-true (isDigit b) (allDigits s) h in more (digit-visible b (k .0)) (digits-visible s (k .1))
+digits-visible [] h = omega arith
+digits-visible (b ∷ s) h = let k = both-true (isDigit b) (allDigits s) h in (digit-visible b (k .0), digits-visible s (k .1))
 
-visible-append : {s t : List ℕ} → Visible s → Visible t → Visible (s ++ t)
-visible-append none w = w
-visible-append (more h v) w = more h (visible-append v w)
-
-start-visible : {s : List ℕ} → Visible s → trimStart s ≡ s
+start-visible : (s : List ℕ) → Visible s → trimStart s ≡ s
 unfolding trimStart
-start-visible none = refl
-start-visible (more h v) = rw h
+start-visible [] v = refl
+start-visible (b ∷ s) v = rw (v .0)
 
-end-visible : {s : List ℕ} → Visible s → trimEnd s ≡ s
+end-visible : (s : List ℕ) → Visible s → trimEnd s ≡ s
 unfolding trimEnd before
-end-visible none = refl
-end-visible (more h none) = rw h
-end-visible (more {b} h (more k v)) = ap (before b) (end-visible (more k v))
+end-visible [] v = refl
+end-visible (b ∷ []) v = rw (v .0)
+end-visible (b ∷ c ∷ s) v = ap (before b) (end-visible (c ∷ s) (v .1))
 
 -- the parts of a text of digits, with a dot and without
 module _ (t : List ℕ) where
@@ -103,8 +99,8 @@ text-back c d m =
     let t = paddedText 2 (c .month) in
     let ds = padded-all (c .day) in
     let dt = padded-all (c .month) in
-    let v = visible-append (digits-visible s ds) (more dot-visible (digits-visible t dt)) in
-    ap dayPart (ap trimEnd (start-visible v) ∙ end-visible v)
+    let v = every-append (λ b. isBlank b ≡ false) s (46 ∷ t) (digits-visible s ds) (dot-visible, digits-visible t dt) in
+    ap dayPart (ap trimEnd (start-visible (s ++ (46 ∷ t)) v) ∙ end-visible (s ++ (46 ∷ t)) v)
     ∙ rw (has-dot t s ds, up-to-dot t s ds, after-dot t s ds, padded-back 6 2 (c .day) d, no-dot t dt, padded-back 6 2 (c .month) m)
 
 -- every accepted coupon date is read back from its text

@@ -4,6 +4,7 @@ use mathlib.Core.Bool.{false}
 use mathlib.Core.List.{[], _∷_}
 use lib.IntN.{pos}
 use lib.Ieee.{Float, fin, add, mul, div, lt, eq, le, ofInt}
+use Rattle.paper.specs.Lists.{valuesFrom}
 use Rattle.paper.specs.Outcome.{given, refused}
 use Rattle.gregorian.specs.Gregorian.{leap, lengthIn, monthLength, yearLength, before}
 use Rattle.calendar.specs.Dates.{isDate, isDay, isBefore, isSame, dayNumber}
@@ -17,7 +18,7 @@ use Rattle.rates.specs.Rates.{fractionTo, isOneCurrency, flowValue, flowAdded, 
 use Rattle.rates.specs.declared.FlatRate.{FlatRate}
 use Rattle.calendar.specs.Answers.{dateOf}
 use Rattle.cash_flow.specs.Flows.{dateOn}
-use Rattle.listed_rates.specs.Listed.{currencyAt, flowAt, flowsFrom, flowsOf}
+use Rattle.listed_rates.specs.Listed.{currencyAt, flowAt, flowsOf}
 use Rattle.calendar.proofs.Examples.{on}
 
 abbrev eur : Currency
@@ -42,5 +43,5 @@ pub record Lists : Type 0 where
   pub no-amounts : discountedStream flat (on 2021 1 1) (flowsOf (1 ∷ []) (1 ∷ []) []) ≡ given zero
 
 pub lists : Lists
-unfolding add mul div lt eq le ofInt leap lengthIn monthLength yearLength before isDate isDay isBefore isSame dayNumber isCapital isCurrency isSameCurrency exactFraction bits impossible simpleFraction yearFraction isRate factorOf fractionTo isOneCurrency flowValue flowAdded streamFrom discountedStream dateOf dateOn currencyAt flowAt flowsFrom flowsOf
+unfolding add mul div lt eq le ofInt leap lengthIn monthLength yearLength before isDate isDay isBefore isSame dayNumber isCapital isCurrency isSameCurrency exactFraction bits impossible simpleFraction yearFraction isRate factorOf fractionTo isOneCurrency flowValue flowAdded streamFrom discountedStream dateOf dateOn currencyAt flowAt valuesFrom flowsOf
 lists = record { euro = refl; four-bytes = refl; no-day = refl; no-currency = refl; no-amounts = refl }

@@ -1,4 +1,3 @@
-pub mod Lists
 pub mod Counted
 pub mod OneOutcome
 pub mod Examples

@@ -1,9 +1,10 @@
 -- A stream of flows as three lists: serial days, currencies as numbers, and amounts. Assumes nothing.
-use Prim.Native.Nat.{ℕ, zero, suc, _+_, _/_, _%_}
-use mathlib.Core.List.{List, [], _∷_}
+use Prim.Native.Nat.{ℕ, _/_, _%_}
+use mathlib.Core.List.{List}
 use lib.Dec.{ltb}
 use lib.ListN.{length, getD}
 use lib.Ieee.{Float, nan}
+use Rattle.paper.specs.Lists.{valuesFrom}
 use Rattle.paper.specs.Outcome.{pick}
 use Rattle.calendar.specs.declared.Date.{Date}
 use Rattle.cash_amount.specs.declared.AmountAnswer.{AmountAnswer}
@@ -26,9 +27,8 @@ flowAt days currencies amounts i =
     record { date = dateOn (getD days i 0); currency = currencyAt (getD currencies i 0); amount = getD amounts i nan }
 
 -- the flows from place i on, so many of them
-unfoldable pub flowsFrom : List ℕ → List ℕ → List Float → ℕ → ℕ → List CashFlow
-flowsFrom days currencies amounts i zero = []
-flowsFrom days currencies amounts i (suc n) = flowAt days currencies amounts i ∷ flowsFrom days currencies amounts (i + 1) n
+abbrev pub flowsFrom : List ℕ → List ℕ → List Float → ℕ → ℕ → List CashFlow
+flowsFrom days currencies amounts i n = valuesFrom (flowAt days currencies amounts) i n
 
 -- as many flows as there are amounts
 unfoldable pub flowsOf : List ℕ → List ℕ → List Float → List CashFlow

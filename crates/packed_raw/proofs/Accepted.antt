@@ -12,7 +12,7 @@ use lib.Ieee.{Float, nan, inf, fin, binary64, fits, isNan}
 use lib.Ieee.Bits.{toBits-lt}
 use Rattle.paper.specs.Outcome.{given, both}
 use Rattle.paper.proofs.Numbers.{between}
-use Rattle.paper.proofs.Outcomes.{both-true}
+use Rattle.paper.proofs.Outcomes.{both-true, unless-given}
 use Rattle.gregorian.proofs.Months.{at-most}
 use Rattle.calendar.specs.Dates.{isDate}
 use Rattle.calendar.specs.declared.Date.{Date}
@@ -23,17 +23,17 @@ use Rattle.coupon_date.specs.declared.CouponDate.{CouponDate}
 use Rattle.cash_amount.specs.Amounts.{isCapital, isCurrency}
 use Rattle.cash_amount.specs.declared.Currency.{Currency}
 use Rattle.time_period.specs.declared.TimePeriodUnit.{TimePeriodUnit}
-use Rattle.time_period.specs.declared.TimePeriodUnit.the-variants as unit
 use Rattle.day_adjust.specs.declared.DayAdjust.{DayAdjust}
 use Rattle.day_adjust.specs.declared.DayAdjust.the-variants as rule
-use Rattle.day_count_conv.specs.Conventions.{codeOf}
+use Rattle.day_count_conv.specs.Conventions.{codeOf, conventionOf}
 use Rattle.day_count_conv.specs.declared.DayCountConv.{DayCountConv}
-use Rattle.day_count_conv.specs.declared.DayCountConv.the-variants as conv
+use Rattle.day_count_conv.proofs.OneOutcome.{code-back}
 use Rattle.note_limits.specs.Limits.{isNoteNumber, isRate}
 use Rattle.bond.specs.declared.Note.{Note}
 use Rattle.note_limits.specs.declared.NoteNumber.{NoteNumber}
 use Rattle.bond.proofs.Ends.{Accepted, passed}
-use Rattle.packed_codes.specs.Codes.{unitCode}
+use Rattle.packed_codes.specs.Codes.{unitOfCode, unitCode}
+use Rattle.packed_codes.proofs.Codes.{unit-back}
 use Rattle.packed_raw.specs.Codes.{ruleCode}
 use Rattle.packed_raw.specs.Fields.{dateFields, couponFields, lettersFields, lettersWith, rawWith}
 use Rattle.packed_raw.specs.Fits.{AllFit, RawFits, Packable}
@@ -77,14 +77,11 @@ date-fits t e = let h = date-yes t e in (omega (arith, h .year-to), (omega (arit
 coupon-fits : (c : CouponDate) → couponDate (c .day) (c .month) ≡ given c → AllFit (couponFields c)
 coupon-fits c e = let h = coupon-yes (c .day) (c .month) c e in (omega (arith, h .day-to, at-most 2019 (c .month)), (omega (arith, h .month-to), omega arith))
 
--- ---- terms
+-- ---- terms: a code that is read back is one that there is
 
 unit-below : (u : TimePeriodUnit) → unitCode u < 5
-unit-below unit.Daily = omega arith
-unit-below unit.BusinessDaily = omega arith
-unit-below unit.Weekly = omega arith
-unit-below unit.Monthly = omega arith
-unit-below unit.Annual = omega arith
+unfolding unitOfCode
+unit-below u = ltb-true (unitCode u) 5 (unless-given (ltb (unitCode u) 5) 18 _ u (unit-back u) .0)
 
 rule-below : (r : DayAdjust) → ruleCode r < 4
 rule-below rule.None = omega arith
@@ -93,12 +90,8 @@ rule-below rule.Preceding = omega arith
 rule-below rule.Modified = omega arith
 
 code-below : (c : DayCountConv) → codeOf c < 6
-code-below conv.Act365 = omega arith
-code-below conv.Act360 = omega arith
-code-below conv.Act365l = omega arith
-code-below conv.D30_360 = omega arith
-code-below conv.D30E360 = omega arith
-code-below conv.ActActICMA = omega arith
+unfolding conventionOf
+code-below c = ltb-true (codeOf c) 6 (unless-given (ltb (codeOf c) 6) 18 _ c (code-back c) .0)
 
 -- a period from 1 to 4,095
 pub in-twelve : (z : ℤ) → ltZ (pos 0) z ≡ true → leZ z (pos 4095) ≡ true → (natAbs z ≤ 4095) × (pos (natAbs z) ≡ z)

@@ -1,57 +1,50 @@
 -- Codes and what they stand for, each from the other.
 -- Assumes nothing.
-use Prim.Native.Nat.{ℕ, zero, suc, _<_}
-use mathlib.Core.Path.{_≡_, refl, sym, ap}
-use native.Mathlib.Omega.{arith}
+use Prim.Native.Nat.{ℕ, _<_}
+use mathlib.Core.Path.{_≡_, refl, sym, ap, _∙_}
+use mathlib.Core.List.{List, map}
+use native.Mathlib.Nat.{zero-add}
 use borrow.Author.Tests.{ltb-true}
 use lib.Dec.{ltb}
-use Rattle.paper.specs.Outcome.{given}
+use lib.ListN.{length, getD, List·getD-map}
+use Rattle.paper.specs.Lists.{valuesFrom}
+use Rattle.paper.specs.Outcome.{given, unless}
+use Rattle.paper.proofs.Lists.{value-at}
 use Rattle.paper.proofs.Outcomes.{given-injective, unless-given}
 use Rattle.time_period.specs.declared.TimePeriodUnit.{TimePeriodUnit}
 use Rattle.time_period.specs.declared.TimePeriodUnit.the-variants as unit
 use Rattle.day_adjust.specs.declared.DayAdjust.{DayAdjust}
 use Rattle.day_adjust.specs.declared.DayAdjust.the-variants as rule
-use Rattle.day_count_conv.specs.Conventions.{codeOf, conventionOf}
+use Rattle.day_count_conv.specs.Conventions.{codeOf, conventions, conventionOf}
 use Rattle.day_count_conv.specs.declared.DayCountConv.{DayCountConv}
-use Rattle.packed_codes.specs.Codes.{unitOfCode, ruleOfCode, unitCode}
+use Rattle.day_count_conv.specs.declared.DayCountConv.the-variants as conv
+use Rattle.packed_codes.specs.Codes.{units, unitOfCode, rules, ruleOfCode, unitCode}
 use Rattle.packed_raw.specs.Codes.{ruleCode}
 
-pub unit-back : (u : TimePeriodUnit) → unitOfCode (unitCode u) ≡ given u
-unfolding unitOfCode
-unit-back unit.Daily = refl
-unit-back unit.BusinessDaily = refl
-unit-back unit.Weekly = refl
-unit-back unit.Monthly = refl
-unit-back unit.Annual = refl
+-- where things have the numbers of their places as codes, what a code stands for has that code
+module _ {A : Type 0} (code : A → ℕ) (l : List A) (d : A) (places : map code l ≡ valuesFrom (λ k. k) 0 (length l)) where
+  code-at : (n : ℕ) → n < length l → code (getD l n d) ≡ n
+  code-at n h = sym (List·getD-map code l n d) ∙ ap (λ (s : List ℕ). getD s n (code d)) places ∙ value-at (λ k. k) 0 (length l) n (code d) h ∙ zero-add n
+
+  code-of : (n : ℕ) (a : A) → unless (ltb n (length l)) 18 (given (getD l n d)) ≡ given a → code a ≡ n
+  code-of n a e =
+      let p = unless-given (ltb n (length l)) 18 (given (getD l n d)) a e in
+      ap code (sym (given-injective (p .1))) ∙ code-at n (ltb-true n (length l) (p .0))
 
 pub unit-code : (n : ℕ) (u : TimePeriodUnit) → unitOfCode n ≡ given u → unitCode u ≡ n
-unfolding unitOfCode
-unit-code zero u e = ap unitCode (sym (given-injective e))
-unit-code (suc zero) u e = ap unitCode (sym (given-injective e))
-unit-code (suc (suc zero)) u e = ap unitCode (sym (given-injective e))
-unit-code (suc (suc (suc zero))) u e = ap unitCode (sym (given-injective e))
-unit-code (suc (suc (suc (suc zero)))) u e = ap unitCode (sym (given-injective e))
-unit-code (suc (suc (suc (suc (suc n))))) u e = absurd (let l = ltb-true (suc (suc (suc (suc (suc n))))) 5 (unless-given (ltb (suc (suc (suc (suc (suc n))))) 5) 18 _ u e .0) in omega arith)
+unfolding unitOfCode valuesFrom
+unit-code = code-of unitCode units unit.Daily refl
+
+pub convention-code : (n : ℕ) (c : DayCountConv) → conventionOf n ≡ given c → codeOf c ≡ n
+unfolding conventionOf valuesFrom
+convention-code = code-of codeOf conventions conv.Act365 refl
+
+pub rule-code : (n : ℕ) → n < 4 → ruleCode (ruleOfCode n) ≡ n
+unfolding valuesFrom
+rule-code = code-at ruleCode rules rule.Modified refl
 
 pub rule-back : (r : DayAdjust) → ruleOfCode (ruleCode r) ≡ r
 rule-back rule.None = refl
 rule-back rule.Following = refl
 rule-back rule.Preceding = refl
 rule-back rule.Modified = refl
-
-pub rule-code : (n : ℕ) → n < 4 → ruleCode (ruleOfCode n) ≡ n
-rule-code zero h = refl
-rule-code (suc zero) h = refl
-rule-code (suc (suc zero)) h = refl
-rule-code (suc (suc (suc zero))) h = refl
-rule-code (suc (suc (suc (suc n)))) h = absurd (omega arith)
-
-pub convention-code : (n : ℕ) (c : DayCountConv) → conventionOf n ≡ given c → codeOf c ≡ n
-unfolding conventionOf
-convention-code zero c e = ap codeOf (sym (given-injective e))
-convention-code (suc zero) c e = ap codeOf (sym (given-injective e))
-convention-code (suc (suc zero)) c e = ap codeOf (sym (given-injective e))
-convention-code (suc (suc (suc zero))) c e = ap codeOf (sym (given-injective e))
-convention-code (suc (suc (suc (suc zero)))) c e = ap codeOf (sym (given-injective e))
-convention-code (suc (suc (suc (suc (suc zero))))) c e = ap codeOf (sym (given-injective e))
-convention-code (suc (suc (suc (suc (suc (suc n)))))) c e = absurd (let l = ltb-true (suc (suc (suc (suc (suc (suc n)))))) 6 (unless-given (ltb (suc (suc (suc (suc (suc (suc n)))))) 6) 18 _ c e .0) in omega arith)

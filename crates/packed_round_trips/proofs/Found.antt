@@ -6,14 +6,14 @@ use mathlib.Core.List.{List, [], _∷_, _++_, append-assoc}
 use native.Mathlib.Nat.{add-zero, add-assoc}
 use native.Mathlib.Omega.{arith}
 use lib.ListN.{length, drop, length-append}
+use Rattle.paper.specs.Lists.{valuesFrom}
 use Rattle.bit_fields.specs.Bits.{Field, fieldBits, fieldsBits, bitsOf, field}
-use Rattle.bit_fields.proofs.Bits.{length-field, field-found, field-at}
+use Rattle.bit_fields.proofs.Bits.{length-field, widths, field-found, field-at}
 use Rattle.packed_numbers.specs.Numbers.{rawOf}
 use Rattle.packed_numbers.specs.declared.Raw.{Raw}
 use Rattle.packed_table.specs.Tables.{daysFrom}
 use Rattle.packed_raw.specs.Fits.{AllFit}
 use Rattle.packed_write.specs.Fields.{rawFields, dayFields}
-use Rattle.packed_write.proofs.Fields.{widths}
 
 -- each field is read from its place on
 abbrev pub Found : List ℕ → ℕ → List Field → Type 0
@@ -81,11 +81,11 @@ next-day : (i : ℕ) → 256 + 22 * i + 22 ≡ 256 + 22 * (i + 1)
 next-day i = omega arith
 
 pub days-read : (s : List ℕ) (i : ℕ) (t : List ℕ) → Found s (256 + 22 * i) (dayFields t) → daysFrom s i (length t) ≡ t
-unfolding dayFields daysFrom
+unfolding valuesFrom
 days-read s i [] h = refl
 days-read s i (d ∷ t) h = rw (h .0, days-read s (i + 1) t (subst (λ (p : ℕ). Found s p (dayFields t)) (next-day i) (h .1)))
 
 pub days-found : (s : List ℕ) (i n : ℕ) → Found s (256 + 22 * i) (dayFields (daysFrom s i n))
-unfolding dayFields daysFrom
+unfolding valuesFrom
 days-found s i zero = omega arith
 days-found s i (suc n) = (refl, subst (λ (p : ℕ). Found s p (dayFields (daysFrom s (i + 1) n))) (sym (next-day i)) (days-found s (i + 1) n))

@@ -21,6 +21,7 @@ use Rattle.bond.specs.declared.Note.{Note}
 use Rattle.note_limits.specs.declared.NoteNumber.{NoteNumber}
 use Rattle.bond.proofs.Ends.{passed}
 use Rattle.packed_codes.specs.Codes.{unitOfCode}
+use Rattle.packed_codes.proofs.Codes.{unit-back}
 use Rattle.packed_note.specs.Codes.{numberGood, digitsGood, digitsNumber}
 use Rattle.packed_note.specs.Records.{noteWith, checkedUnit, noteIn}
 use Rattle.packed_numbers.specs.declared.Raw.{Raw}
@@ -30,7 +31,7 @@ use Rattle.packed_raw.specs.Fits.{Packable}
 use Rattle.packed_raw.proofs.Accepted.{capitals, Digits, digits-known, in-twelve, accepted, rate-no-nan}
 use Rattle.packed_round_trips.specs.RoundTrips.{InMachine}
 use Rattle.packed_round_trips.proofs.Digits.{good-places, places-number, number-places}
-use Rattle.packed_round_trips.proofs.Codes.{unit-back, unit-code, rule-back, rule-code, convention-code}
+use Rattle.packed_round_trips.proofs.Codes.{unit-code, rule-back, rule-code, convention-code}
 
 -- ---- from the note and back
 

@@ -15,7 +15,7 @@ use lib.Signed.{leZ}
 use Rattle.paper.specs.Outcome.{given}
 use Rattle.paper.proofs.Outcomes.{given-injective, both-true, then-given}
 use Rattle.bit_fields.specs.Bits.{fieldBits, fieldsBits, bitsOf, bytesOf, field, AreBytes}
-use Rattle.bit_fields.proofs.Bits.{length-bits, field-at, field-below, bytes-back}
+use Rattle.bit_fields.proofs.Bits.{widths, length-fields, length-bits, field-at, field-below, bytes-back}
 use Rattle.holidays.specs.Table.{isTable}
 use Rattle.bond.specs.declared.Note.{Note}
 use Rattle.packed_numbers.specs.Numbers.{rawOf}
@@ -28,7 +28,7 @@ use Rattle.packed.proofs.Reading.{bytes-given, few-days}
 use Rattle.packed_raw.specs.Fields.{rawWith}
 use Rattle.packed_write.specs.Fields.{rawFields, tableFields, zerosBehind, wholeBytes, rawBytes}
 use Rattle.packed_write.specs.Writing.{packedNote}
-use Rattle.packed_write.proofs.Fields.{widths, length-fields, length-record}
+use Rattle.packed_write.proofs.Fields.{length-record}
 use Rattle.packed_round_trips.proofs.Found.{Found, found-bits, found-both, raw-found, days-found}
 use Rattle.packed_round_trips.proofs.Notes.{Narrow, Read, was-read, raw-back}
 use Rattle.packed_round_trips.proofs.Written.{zeros-left}

@@ -2,22 +2,22 @@
 -- Assumes nothing.
 use Prim.Native.Nat.{ℕ, zero, suc, _+_, _-_, _*_, _/_, _%_}
 use mathlib.Core.Path.{_≡_, refl, sym, ap, _∙_}
-use mathlib.Core.Bool.{Bool, true}
+use mathlib.Core.Bool.{true}
 use mathlib.Core.List.{List, [], _∷_, _++_, append-nil}
 use native.Mathlib.Omega.{arith}
-use borrow.Author.Tests.{le-leb, leb-true}
+use borrow.Author.Tests.{le-leb}
 use lib.Dec.{leb}
 use lib.ListN.{length}
 use lib.IntN.{pos}
 use lib.Signed.{leZ}
 use lib.Pow.{pow-pos}
-use Rattle.paper.specs.Outcome.{given, andThen, both}
+use Rattle.paper.specs.Outcome.{given, andThen}
 use Rattle.paper.proofs.Lists.{every-append}
-use Rattle.paper.proofs.Outcomes.{given-injective, both-true, unless-given, then-given}
+use Rattle.paper.proofs.Outcomes.{given-injective, unless-given, then-given}
 use Rattle.bit_fields.specs.Bits.{inBits, fieldBits, fieldsBits, bitsOf, field, AreBytes}
-use Rattle.bit_fields.proofs.Bits.{field-found}
+use Rattle.bit_fields.proofs.Bits.{fields-are, field-found}
 use Rattle.holidays.specs.Table.{ascendsFrom, isTable}
-use Rattle.holidays.proofs.Table.{table-ascends, table-most}
+use Rattle.holidays.proofs.Table.{ascends-cons, table-ascends, table-most}
 use Rattle.bond.specs.Notes.{noteChecks}
 use Rattle.bond.specs.declared.Note.{Note}
 use Rattle.bond.proofs.Ends.{passed}
@@ -31,7 +31,8 @@ use Rattle.packed_raw.specs.Fits.{Fits, AllFit, RawFits, Packable}
 use Rattle.packed_raw.proofs.Accepted.{raw-fits}
 use Rattle.packed_write.specs.Fields.{headFields, middleFields, tailFields, rawFields, dayFields, tableFields, zerosBehind, rawBytes, recordBytes}
 use Rattle.packed_write.specs.Writing.{packedNote}
-use Rattle.packed_write.proofs.Fields.{fields-are, length-record, whole-bits, whole-bytes, bytes-length}
+use Rattle.packed_write.proofs.Answers.{note-packable}
+use Rattle.packed_write.proofs.Fields.{length-record, whole-bits, whole-bytes, bytes-length}
 use Rattle.packed_round_trips.specs.RoundTrips.{InMachine}
 use Rattle.packed_round_trips.proofs.Found.{Found, found-in, found-first, found-later, raw-read, days-read}
 use Rattle.packed_round_trips.proofs.Notes.{note-read}
@@ -47,12 +48,8 @@ raw-all r h =
     (h .rate, every-append Fits (lettersFields (r .letters)) (inBits 10 (r .spare) ∷ []) (h .letters) (h .spare, omega arith)))
 
 days-fit : (low : ℕ) (t : List ℕ) → ascendsFrom low t ≡ true → AllFit (dayFields t)
-unfolding dayFields ascendsFrom
 days-fit low [] e = omega arith
-days-fit low (d ∷ t) e =
-    let p = both-true (leb low d) (both (leb d 3652059) (ascendsFrom (d + 1) t)) e in
-    let q = both-true (leb d 3652059) (ascendsFrom (d + 1) t) (p .1) in
-    (omega (arith, leb-true d 3652059 (q .0)), days-fit (d + 1) t (q .1))
+days-fit low (d ∷ t) e = let a = ascends-cons low d t e in (omega (arith, a .1), days-fit (d + 1) t (a .2))
 
 -- ---- the bytes of a note that is not refused
 
@@ -66,12 +63,8 @@ unfolding packedNote
 was-packed n table s e =
     let a = unless-given (leZ (n .period .num) (pos 4095)) 18 (andThen (noteChecks true (isTable table) n) (λ m. given (recordBytes m table))) s e in
     let b = then-given (noteChecks true (isTable table) n) (λ m. given (recordBytes m table)) s (a .1) in
-    let q = passed true (isTable table) n (b .0) (b .1) in
-    record {
-      note = (a .0, ap (λ (t : Bool). noteChecks true t n) (sym (q .table-taken)) ∙ b .1 ∙ ap given (sym (q .itself)));
-      table-taken = q .table-taken;
-      bytes = ap (λ (m : Note). recordBytes m table) (q .itself) ∙ given-injective (b .2);
-    }
+    let p = note-packable n table (a .0) (isTable table) (b .0) refl (b .1) in
+    record { note = p .0; table-taken = p .1; bytes = ap (λ (m : Note). recordBytes m table) (passed true (isTable table) n (b .0) (b .1) .itself) ∙ given-injective (b .2) }
 
 -- as many zero bits as are left of the last byte
 pub zeros-left : (l k n : ℕ) → l ≡ n → k ≡ (n + 7) / 8 → zerosBehind l ≡ k * 8 - n

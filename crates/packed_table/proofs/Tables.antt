@@ -1,13 +1,14 @@
 -- The table behind a note: how long it is, and its days one after the other.
 -- Assumes nothing.
-use Prim.Native.Nat.{ℕ, zero, suc, _+_, _-_, _*_, _/_, _≤_, _<_}
-use mathlib.Core.Path.{_≡_, refl, sym, ap, subst, _∙_}
+use Prim.Native.Nat.{ℕ, _+_, _-_, _*_, _/_, _≤_, _<_}
+use mathlib.Core.Path.{_≡_, sym, ap, subst, _∙_}
 use mathlib.Core.Bool.{Bool, true, false}
 use mathlib.Core.List.{List, [], _∷_, _++_, append-nil}
 use native.Mathlib.Omega.{arith}
 use borrow.Author.Tests.{le-leb, lt-leb, eq-eqb, ne-eqb, leb-true, eqb-true}
 use lib.Dec.{leb, eqb}
 use lib.ListN.{length, set, take}
+use Rattle.paper.proofs.Lists.{length-values, values-none, values-next}
 use Rattle.paper.proofs.Outcomes.{both-true}
 use Rattle.bit_fields.specs.Bits.{field}
 use Rattle.holidays.specs.Table.{ascendsFrom, isTable}
@@ -65,17 +66,7 @@ days-there s n e f h =
 -- ---- its days
 
 pub length-days : (s : List ℕ) (i n : ℕ) → length (daysFrom s i n) ≡ n
-unfolding daysFrom
-length-days s i zero = refl
-length-days s i (suc n) = ap suc (length-days s (i + 1) n)
-
-pub days-none : (s : List ℕ) (i n : ℕ) → n ≤ i → daysFrom s i (n - i) ≡ []
-unfolding daysFrom
-days-none s i n h = let e : n - i ≡ 0 = omega arith in rw (e)
-
-pub days-next : (s : List ℕ) (i n : ℕ) → i < n → daysFrom s i (n - i) ≡ dayAt s i ∷ daysFrom s (i + 1) (n - (i + 1))
-unfolding daysFrom
-days-next s i n h = let e : n - i ≡ suc (n - (i + 1)) = omega arith in rw (e)
+length-days s i n = length-values (dayAt s) i n
 
 pub table-many : (s : List ℕ) (n : ℕ) → n ≡ tableCount s → 4096 < n → false ≡ isTableIn s
 unfolding isTableIn
@@ -93,7 +84,7 @@ left-all s n = let z : n - 0 ≡ n = omega arith in ap (λ (k : ℕ). ascendsFro
 
 module _ (s : List ℕ) (low i n d : ℕ) (z : Bool) (e : ascendsFrom low (daysFrom s i (n - i)) ≡ z) (h : i < n) (f : d ≡ dayAt s i) where
   next : ascendsFrom low (d ∷ daysFrom s (i + 1) (n - (i + 1))) ≡ z
-  next = sym (ap (ascendsFrom low) (days-next s i n h ∙ ap (λ (x : ℕ). x ∷ daysFrom s (i + 1) (n - (i + 1))) (sym f))) ∙ e
+  next = sym (ap (ascendsFrom low) (values-next (dayAt s) i n h ∙ ap (λ (x : ℕ). x ∷ daysFrom s (i + 1) (n - (i + 1))) (sym f))) ∙ e
 
   pub left-early : d < low → false ≡ z
   unfolding ascendsFrom
@@ -109,7 +100,7 @@ module _ (s : List ℕ) (low i n d : ℕ) (z : Bool) (e : ascendsFrom low (daysF
 
 pub left-none : (s : List ℕ) (low i n : ℕ) (z : Bool) → ascendsFrom low (daysFrom s i (n - i)) ≡ z → n ≤ i → true ≡ z
 unfolding ascendsFrom
-left-none s low i n z e h = sym (ap (ascendsFrom low) (days-none s i n h)) ∙ e
+left-none s low i n z e h = sym (ap (ascendsFrom low) (values-none (dayAt s) i n h)) ∙ e
 
 -- ---- written one after the other
 
@@ -120,9 +111,9 @@ module _ (s old : List ℕ) (n : ℕ) where
   pub days-more : (i d : ℕ) (new : List ℕ) → i < n → i < length new → d ≡ dayAt s i → Filled (daysFrom s 0 n) old i (daysFrom s i (n - i)) new → Filled (daysFrom s 0 n) old (i + 1) (daysFrom s (i + 1) (n - (i + 1))) (set new i d)
   days-more i d new h l e f =
       filled-more (daysFrom s 0 n) old i d (daysFrom s (i + 1) (n - (i + 1))) new l
-      (subst (λ (t : List ℕ). Filled (daysFrom s 0 n) old i t new) (days-next s i n h ∙ ap (λ (x : ℕ). x ∷ daysFrom s (i + 1) (n - (i + 1))) (sym e)) f)
+      (subst (λ (t : List ℕ). Filled (daysFrom s 0 n) old i t new) (values-next (dayAt s) i n h ∙ ap (λ (x : ℕ). x ∷ daysFrom s (i + 1) (n - (i + 1))) (sym e)) f)
 
   pub days-end : (i : ℕ) (new : List ℕ) → i ≡ n → Filled (daysFrom s 0 n) old i (daysFrom s i (n - i)) new → take n new ≡ daysFrom s 0 n
   days-end i new e f =
-      let left : daysFrom s i (n - i) ≡ [] = days-none s i n (omega arith) in
+      let left : daysFrom s i (n - i) ≡ [] = values-none (dayAt s) i n (omega arith) in
       ap (λ (k : ℕ). take k new) (sym e) ∙ sym (append-nil (take i new)) ∙ ap (λ (t : List ℕ). take i new ++ t) (sym left) ∙ f .front

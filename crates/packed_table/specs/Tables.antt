@@ -1,10 +1,11 @@
 -- The table that follows a packed note.
 -- Assumes nothing.
-use Prim.Native.Nat.{ℕ, zero, suc, _+_, _-_, _*_, _/_}
+use Prim.Native.Nat.{ℕ, _+_, _-_, _*_, _/_}
 use mathlib.Core.Bool.{Bool, true}
-use mathlib.Core.List.{List, [], _∷_}
+use mathlib.Core.List.{List}
 use lib.Dec.{leb, eqb}
 use lib.ListN.{length}
+use Rattle.paper.specs.Lists.{valuesFrom}
 use Rattle.paper.specs.Outcome.{pick, both}
 use Rattle.bit_fields.specs.Bits.{field}
 use Rattle.holidays.specs.Table.{isTable}
@@ -17,9 +18,8 @@ abbrev pub dayAt : List ℕ → ℕ → ℕ
 dayAt s i = field s (256 + 22 * i) 22
 
 -- n of them from day i on
-unfoldable pub daysFrom : List ℕ → ℕ → ℕ → List ℕ
-daysFrom s i zero = []
-daysFrom s i (suc n) = dayAt s i ∷ daysFrom s (i + 1) n
+abbrev pub daysFrom : List ℕ → ℕ → ℕ → List ℕ
+daysFrom s i n = valuesFrom (dayAt s) i n
 
 abbrev pub tableDays : List ℕ → List ℕ
 tableDays s = daysFrom s 0 (tableCount s)

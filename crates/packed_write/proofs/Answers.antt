@@ -19,6 +19,12 @@ use Rattle.packed_raw.specs.Fits.{Packable}
 use Rattle.packed_write.specs.Fields.{recordBytes}
 use Rattle.packed_write.specs.Writing.{packedNote, WritePromise}
 
+-- the checks give the note that was judged
+pub note-packable : (n : Note) (table : List ℕ) → leZ (n .period .num) (pos 4095) ≡ true → (t : Bool) (m : Note) → t ≡ isTable table → noteChecks true t n ≡ given m → (Packable n) × (isTable table ≡ true)
+note-packable n table h t m e f =
+    let p = passed true t n m f in
+    ((h, ap (λ (b : Bool). noteChecks true b n) (sym (p .table-taken)) ∙ f ∙ ap given (sym (p .itself))), sym e ∙ p .table-taken)
+
 module _ (n : Note) (table d : List ℕ) where
   pub period-refused : leZ (n .period .num) (pos 4095) ≡ false → WritePromise n table d d (length-answer.Refused 18)
   unfolding packedNote
@@ -28,12 +34,6 @@ module _ (n : Note) (table d : List ℕ) where
     pub note-refused : (t : Bool) (k : ℕ) → t ≡ isTable table → noteChecks true t n ≡ refused k → WritePromise n table d d (length-answer.Refused k)
     unfolding packedNote
     note-refused t k e f = writes-none (packedNote n table) d k (rw (h, ← e, f))
-
-    -- the checks give the note that was judged
-    pub note-packable : (t : Bool) (m : Note) → t ≡ isTable table → noteChecks true t n ≡ given m → (Packable n) × (isTable table ≡ true)
-    note-packable t m e f =
-        let p = passed true t n m f in
-        ((h, ap (λ (b : Bool). noteChecks true b n) (sym (p .table-taken)) ∙ f ∙ ap given (sym (p .itself))), sym e ∙ p .table-taken)
 
     pub note-written : (e : List ℕ) (r : LengthAnswer) → (Packable n) × (isTable table ≡ true) → Written d e (recordBytes n table) (lengthOutcome r) → WritePromise n table d e r
     unfolding packedNote

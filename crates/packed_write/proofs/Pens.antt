@@ -2,21 +2,21 @@
 -- Assumes nothing.
 use Prim.Native.Nat.{ℕ, _+_, _-_, _*_, _/_, _%_, _≤_, _<_}
 use mathlib.Core.Path.{_≡_, refl, sym, ap, _∙_}
-use mathlib.Core.List.{List, [], _∷_, _++_, append-assoc, append-nil}
+use mathlib.Core.List.{List, [], _∷_, _++_, append-assoc, append-nil, map-append}
 use native.Mathlib.Nat.{zero-add, add-zero}
 use native.Mathlib.Omega.{arith}
 use lib.ListN.{length, take, getD, length-append}
 use lib.Seq.{take-length}
-use Rattle.paper.proofs.Lists.{tails-agree}
+use Rattle.paper.proofs.Lists.{take-more, tails-agree}
 use Rattle.bit_fields.specs.Bits.{Field, inBits, fieldBits, fieldsBits, bitsOf, bytesOf}
 use Rattle.bit_fields.specs.Pens.{Held, putSoFar, Drew}
 use Rattle.bit_fields.specs.declared.Pen.{Pen}
-use Rattle.bit_fields.proofs.Bits.{one-field, field-split, field-cut, length-bytes}
+use Rattle.bit_fields.proofs.Bits.{one-field, field-split, field-cut, fields-append, length-bytes}
 use Rattle.bit_fields.proofs.Pens.{Inked, inked-all}
 use Rattle.packed_numbers.specs.declared.Raw.{Raw}
 use Rattle.text.specs.Writing.{put, Wrote}
 use Rattle.packed_write.specs.Fields.{rawFields, dayFields, tableFields, zerosBehind, wholeBytes, rawBytes}
-use Rattle.packed_write.proofs.Fields.{fields-append, days-more, length-record, padded-length}
+use Rattle.packed_write.proofs.Fields.{length-record, padded-length}
 
 -- nothing
 pub drew-none : (d : List ℕ) (p : Pen) → Held p → Drew d d p p 0 []
@@ -69,8 +69,8 @@ drew-halves {x = x} a b = drew-is (drew-then a b) refl (halves x)
 -- a day behind those before it
 pub drew-day : {d e f : List ℕ} {p q r : Pen} (t : List ℕ) (i x : ℕ) → i < length t → x ≡ getD t i 0 → Drew d e p q (22 * i) (dayFields (take i t)) → Drew e f q r 22 (inBits 22 x ∷ []) → Drew d f p r (22 * (i + 1)) (dayFields (take (i + 1) t))
 drew-day t i x h g a b =
-    drew-is (drew-then a b) (omega arith)
-    (fields-append (dayFields (take i t)) (inBits 22 x ∷ []) ∙ ap (λ (s : List ℕ). fieldsBits (dayFields (take i t)) ++ s) (one-field (inBits 22 x)) ∙ sym (days-more t i x h g))
+    let more : dayFields (take (i + 1) t) ≡ dayFields (take i t) ++ (inBits 22 x ∷ []) = rw (g) (ap dayFields (take-more t i 0 h) ∙ map-append (inBits 22) (take i t) (getD t i 0 ∷ [])) in
+    drew-is (drew-then a b) (omega arith) (ap fieldsBits (sym more))
 
 pub all-days : {d e : List ℕ} {p r : Pen} (t : List ℕ) (i : ℕ) → i ≡ length t → Drew d e p r (22 * i) (dayFields (take i t)) → Drew d e p r (22 * length t) (dayFields t)
 all-days t i h a = drew-is a (ap (λ (k : ℕ). 22 * k) h) (ap (λ (s : List ℕ). fieldsBits (dayFields s)) (ap (λ (k : ℕ). take k t) h ∙ take-length t))
@@ -81,7 +81,7 @@ abbrev start : Pen
 start = record { place = 0; count = 0; bits = 0 }
 
 start-none : (d : List ℕ) → putSoFar d start ≡ []
-unfolding bitsOf fieldBits
+unfolding bitsOf fieldsBits fieldBits
 start-none d = refl
 
 pub drew-inked : {d e : List ℕ} {r : Pen} {n : ℕ} {fs : List Field} → Drew d e start r n fs → Inked d e r (fieldsBits fs)

@@ -1,7 +1,7 @@
 -- A note and its table as fields of bits, in the paper's order and widths, and the bytes that they are.
 -- Assumes nothing.
 use Prim.Native.Nat.{ℕ, _+_, _-_, _/_, _%_}
-use mathlib.Core.List.{List, [], _∷_, _++_}
+use mathlib.Core.List.{List, [], _∷_, _++_, map}
 use lib.ListN.{length}
 use Rattle.bit_fields.specs.Bits.{Field, inBits, fieldBits, fieldsBits, bytesOf}
 use Rattle.bond.specs.declared.Note.{Note}
@@ -22,9 +22,8 @@ abbrev pub rawFields : Raw → List Field
 rawFields r = headFields r ++ (middleFields r ++ tailFields r)
 
 -- the table follows: count 16, days of 22 each
-unfoldable pub dayFields : List ℕ → List Field
-dayFields [] = []
-dayFields (d ∷ ds) = inBits 22 d ∷ dayFields ds
+abbrev pub dayFields : List ℕ → List Field
+dayFields table = map (inBits 22) table
 
 abbrev pub tableFields : List ℕ → List Field
 tableFields table = inBits 16 (length table) ∷ dayFields table

@@ -1,13 +1,14 @@
--- Parts of a list, as a slice gives them, what holds of every element, and those that a test takes; over any kind of element. Assumes nothing.
+-- Parts of a list, as a slice gives them, what holds of every element, those that a test takes, and a list by its rule; over any kind of element. Assumes nothing.
 use Prim.Native.Nat.{ℕ, zero, suc, _+_, _-_, _≤_, _<_}
-use mathlib.Core.Path.{_≡_, sym, ap, _∙_}
+use mathlib.Core.Path.{_≡_, refl, sym, ap, _∙_}
 use mathlib.Core.Bool.{Bool, true, false}
 use mathlib.Core.List.{List, [], _∷_, _++_}
+use native.Mathlib.Nat.{add-zero}
 use native.Mathlib.Numerals.{add-one}
 use native.Mathlib.Omega.{arith}
 use lib.ListN.{length, take, drop, getD, length-drop, drop-of-length-le}
-use lib.Seq.{take-all, drop-cons, drop-drop}
-use Rattle.paper.specs.Lists.{Every, those}
+use lib.Seq.{take-all, take-suc, drop-cons, drop-drop}
+use Rattle.paper.specs.Lists.{Every, those, valuesFrom}
 
 module _ {A : Type 0} where
   -- a part up to the end is all from its start on
@@ -17,6 +18,13 @@ module _ {A : Type 0} where
   -- the rest from a place on begins with what stands there
   pub head-at : (l : List A) (i : ℕ) (d : A) → i < length l → drop i l ≡ getD l i d ∷ drop (i + 1) l
   head-at l i d h = rw (add-one i) (drop-cons l i d h)
+
+  -- and the part before it, with what stands there, is the part that ends behind it
+  pub take-more : (l : List A) (i : ℕ) (d : A) → i < length l → take (i + 1) l ≡ take i l ++ (getD l i d ∷ [])
+  take-more l i d h = rw (add-one i) (take-suc l i d h)
+
+  pub take-last : (l : List A) (i : ℕ) (d : A) → 1 ≤ i → i ≤ length l → take i l ≡ take (i - 1) l ++ (getD l (i - 1) d ∷ [])
+  take-last l i d h k = let e : i - 1 + 1 ≡ i = omega arith in ap (λ (j : ℕ). take j l) (sym e) ∙ take-more l (i - 1) d (omega arith)
 
   -- lists that agree from a place on agree from each later one on
   pub tails-agree : (l m : List A) (i j : ℕ) → i ≤ j → drop i l ≡ drop i m → drop j l ≡ drop j m
@@ -81,3 +89,24 @@ module _ {A : Type 0} (test : A → Bool) (l : List A) where
 
   pub passed-all : (i k : ℕ) → length l ≤ i → Passed test l i k → k ≡ length (those test l)
   passed-all i k h p = omega (arith, p .told, ap length (those-none test l i h))
+
+-- a list by its rule, as a loop that stands at i of n leaves it, and at each place
+module _ {A : Type 0} (f : ℕ → A) where
+  pub length-values : (i n : ℕ) → length (valuesFrom f i n) ≡ n
+  unfolding valuesFrom
+  length-values i zero = refl
+  length-values i (suc n) = ap suc (length-values (i + 1) n)
+
+  pub values-none : (i n : ℕ) → n ≤ i → valuesFrom f i (n - i) ≡ []
+  unfolding valuesFrom
+  values-none i n h = let e : n - i ≡ 0 = omega arith in rw (e)
+
+  pub values-next : (i n : ℕ) → i < n → valuesFrom f i (n - i) ≡ f i ∷ valuesFrom f (i + 1) (n - (i + 1))
+  unfolding valuesFrom
+  values-next i n h = let e : n - i ≡ suc (n - (i + 1)) = omega arith in rw (e)
+
+  pub value-at : (i n k : ℕ) (d : A) → k < n → getD (valuesFrom f i n) k d ≡ f (i + k)
+  unfolding valuesFrom
+  value-at i zero k d h = absurd (omega arith)
+  value-at i (suc n) zero d h = rw add-zero
+  value-at i (suc n) (suc k) d h = value-at (i + 1) n k d (omega arith) ∙ ap f (omega arith)

@@ -1,5 +1,5 @@
--- What holds of every element of a list, and what a test takes of it. Assumes nothing.
-use Prim.Native.Nat.{_<_}
+-- What holds of every element of a list, what a test takes of it, and a list by its rule. Assumes nothing.
+use Prim.Native.Nat.{ℕ, zero, suc, _+_, _<_}
 use mathlib.Core.Bool.{Bool, true}
 use mathlib.Core.List.{List, [], _∷_}
 use Rattle.paper.specs.Outcome.{pick, both}
@@ -17,3 +17,8 @@ those test (x ∷ l) = pick (test x) (x ∷ those test l) (those test l)
 unfoldable pub allOf : {A : Type 0} → (A → Bool) → List A → Bool
 allOf test [] = true
 allOf test (x ∷ l) = both (test x) (allOf test l)
+
+-- f i, f (i + 1), .., of which there are n
+unfoldable pub valuesFrom : {A : Type 0} → (ℕ → A) → ℕ → ℕ → List A
+valuesFrom f i zero = []
+valuesFrom f i (suc n) = f i ∷ valuesFrom f (i + 1) n

@@ -3,11 +3,12 @@
 use Prim.Native.Nat.{ℕ, zero, suc, _+_, _-_, _/_, _%_, _≤_, _<_}
 use mathlib.Core.Path.{_≡_, refl, sym, ap, _∙_}
 use mathlib.Core.List.{List, [], _∷_, _++_, append-assoc}
-use native.Mathlib.Nat.{add-zero}
+use native.Mathlib.Nat.{zero-add, add-zero}
 use native.Mathlib.Numerals.{add-one}
 use native.Mathlib.Omega.{arith}
 use lib.ListN.{length, take, drop, set, getD, replicate, length-append, length-take, length-drop, take-append-drop, length-replicate}
-use lib.Seq.{set-split, drop-cons, take-suc, take-set-le, drop-set-lt, getD-set-same, take-at, drop-at, drop-drop, length-take-le, lt-length-set}
+use lib.Seq.{set-split, drop-cons, take-set-le, drop-set-lt, getD-set-same, take-at, drop-at, drop-drop, length-take-le, lt-length-set}
+use Rattle.paper.proofs.Lists.{take-last}
 use Rattle.text.specs.Writing.{digits, put, Wrote}
 use Rattle.text_lengths.proofs.Digits.{length-digits, replicate-more}
 
@@ -20,6 +21,11 @@ put-none d at = rw (add-zero at) (take-append-drop at d)
 pub put-one : (d : List ℕ) (at v : ℕ) → at < length d → set d at v ≡ put d at (v ∷ [])
 unfolding put
 put-one d at v h = set-split d at v h ∙ rw (add-one at)
+
+-- in front of what stands past it
+pub put-front : (d xs : List ℕ) (n : ℕ) → length xs ≡ n → put d 0 xs ≡ xs ++ drop n d
+unfolding put
+put-front d xs n e = rw (zero-add (length xs), e)
 
 pub length-put : (d : List ℕ) (at : ℕ) (xs : List ℕ) → at + length xs ≤ length d → length (put d at xs) ≡ length d
 unfolding put
@@ -101,10 +107,8 @@ run-less o at (suc i) b z e l h =
     rw (k) (last-less o at i i b (replicate i b) z (ap (put o at) (replicate-more i b) ∙ e) (length-replicate i b) refl (omega arith))
 
 pub bytes-less : (o : List ℕ) (at i : ℕ) (s z : List ℕ) → put o at (take i s) ≡ z → 1 ≤ i → i ≤ length s → at + i ≤ length o → put (set o (at + (i - 1)) (getD s (i - 1) 0)) at (take (i - 1) s) ≡ z
-bytes-less o at zero s z e l m h = absurd (omega arith)
-bytes-less o at (suc i) s z e l m h =
-    let k : suc i - 1 ≡ i = omega arith in
-    rw (k) (last-less o at i i (getD s i 0) (take i s) z (ap (put o at) (sym (take-suc s i 0 (omega arith))) ∙ e) (length-take-le i s (omega arith)) refl (omega arith))
+bytes-less o at i s z e l m h =
+    last-less o at (i - 1) (i - 1) (getD s (i - 1) 0) (take (i - 1) s) z (ap (put o at) (sym (take-last s i 0 l m)) ∙ e) (length-take-le (i - 1) s (omega arith)) refl (omega arith)
 
 -- where nothing is left to write, all is written
 pub all-put : (o : List ℕ) (at : ℕ) (xs z : List ℕ) → put o at xs ≡ z → length xs ≤ 0 → o ≡ z

@@ -4,16 +4,17 @@ use Prim.Native.Nat.{_-_, _≤_}
 use mathlib.Core.Path.{sym, ap, ap₂, _∙_}
 use borrow.Author.Needs.{needs}
 use mathlib.Core.Path.{_≡_}
+use native.Mathlib.Nat.{sub-zero}
 use native.Mathlib.Omega.{arith}
 use lib.ListN.{length}
 use lib.IntN.{pos}
 use borrow.Author.Tests.{not-true, not-false}
+use Rattle.paper.proofs.Lists.{values-none, values-next}
 use Rattle.day_fraction.specs.Fractions.{whole}
 use Rattle.cash_amount.specs.Amounts.{amountOutcome}
 use Rattle.rates.specs.Rates.{streamFrom, discountedStream}
-use Rattle.listed_rates.specs.Listed.{flowsFrom, flowsOf}
+use Rattle.listed_rates.specs.Listed.{flowAt, flowsFrom, flowsOf}
 use Rattle.rates.proofs.Streams.{stream-on, stream-ends, stream-none}
-use Rattle.listed_rates.proofs.Lists.{flows-more, flows-all, flows-none}
 use Rattle.rate_factors.proofs.Numbers.{lit0}
 use Rattle.listed_rates.proofs.discount_listed_flows.Statement.{statement}
 use Rattle.listed_rates.proofs.discount_listed_flows.Tie as tie
@@ -36,9 +37,10 @@ counted-from-requires : tie.Need-counted-from-requires Inv-loop μ-loop
 counted-from-requires c κs = search needs
 
 loop-holds : tie.Need-loop-holds Inv-loop μ-loop
+unfolding flowsOf
 loop-holds c =
     let a = c .before .before .before .before .before .before .args in
-    (omega arith, ap₂ (streamFrom (a .rate) (a .today)) lit0 (flows-all (a .days .now) (a .currencies .now) (a .amounts .now)))
+    (omega arith, ap₂ (streamFrom (a .rate) (a .today)) lit0 (ap (flowsFrom (a .days .now) (a .currencies .now) (a .amounts .now) 0) (sub-zero (length (a .amounts .now)))))
 
 added-at-requires : tie.Need-added-at-requires Inv-loop μ-loop
 added-at-requires c κs = search needs
@@ -53,7 +55,7 @@ returns-2 : tie.Need-returns-2 Inv-loop μ-loop
 unfolding discountedStream
 returns-2 c =
     let a = c .before .before .before .before .before .before .before .before .before .before .before .before .args in
-    let left = rw (flows-more (a .days .now) (a .currencies .now) (a .amounts .now) (c .before .before .before .before .before .loop .i) (length (a .amounts .now)) (c .before .before .before .before .loop-test .taken)) at (c .before .before .before .before .before .loop .inv .1) in
+    let left = rw (values-next (flowAt (a .days .now) (a .currencies .now) (a .amounts .now)) (c .before .before .before .before .before .loop .i) (length (a .amounts .now)) (c .before .before .before .before .loop-test .taken)) at (c .before .before .before .before .before .loop .inv .1) in
     rw (sym (c .before .before .before .before .before .before .before .before .is-rate .ensures) ∙ not-false _ (c .before .before .before .before .before .before .before .if1 .left))
     (stream-ends (a .rate) (a .today) _ _ _ _ _ (ap amountOutcome (sym (c .before .n .given .1)) ∙ c .before .before .before .added-at .ensures) left)
 
@@ -66,14 +68,14 @@ loop-less c = search needs
 loop-again : tie.Need-loop-again Inv-loop μ-loop
 loop-again c =
     let a = c .before .before .before .before .before .before .before .before .before .before .before .before .args in
-    let left = rw (flows-more (a .days .now) (a .currencies .now) (a .amounts .now) (c .before .before .before .before .before .loop .i) (length (a .amounts .now)) (c .before .before .before .before .loop-test .taken)) at (c .before .before .before .before .before .loop .inv .1) in
+    let left = rw (values-next (flowAt (a .days .now) (a .currencies .now) (a .amounts .now)) (c .before .before .before .before .before .loop .i) (length (a .amounts .now)) (c .before .before .before .before .loop-test .taken)) at (c .before .before .before .before .before .loop .inv .1) in
     (omega arith, stream-on (a .rate) (a .today) _ _ _ _ _ (ap amountOutcome (sym (c .before .x .given .1)) ∙ c .before .before .before .added-at .ensures) left)
 
 returns-3 : tie.Need-returns-3 Inv-loop μ-loop
 unfolding discountedStream
 returns-3 c =
     let a = c .before .before .before .before .before .before .before .before .args in
-    let left = rw (flows-none (a .days .now) (a .currencies .now) (a .amounts .now) (c .before .loop .i) (length (a .amounts .now)) (c .loop-test .left)) at (c .before .loop .inv .1) in
+    let left = rw (values-none (flowAt (a .days .now) (a .currencies .now) (a .amounts .now)) (c .before .loop .i) (length (a .amounts .now)) (c .loop-test .left)) at (c .before .loop .inv .1) in
     rw (sym (c .before .before .before .before .is-rate .ensures) ∙ not-false _ (c .before .before .before .if1 .left)) (sym (stream-none (a .rate) (a .today) _) ∙ left)
 
 pub discount-listed-flows-spec : {M : Type 1} → statement M

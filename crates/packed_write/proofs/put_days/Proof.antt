@@ -21,7 +21,6 @@ abbrev μ-loop : tie.MeasureT-loop
 μ-loop table out₀ at₀ i₀ out at i = length table - i
 
 loop-holds : tie.Need-loop-holds Inv-loop μ-loop
-unfolding dayFields
 loop-holds c = (omega arith, drew-none _ _ (c .before .before .pre .0 .0))
 
 mul-put-field : tie.Need-mul-put-field Inv-loop μ-loop

@@ -41,7 +41,7 @@ enum-told c = search needs
 write-judged-requires : tie.Need-write-judged-requires
 write-judged-requires c κs =
     let a = c .before .before .before .before .before .before .before .before .before .before .before .args in
-    note-packable (a .note) (now (a .table)) (now (a .out)) (within (c .before .before .before .before .before)) _ _ (c .before .before .before .before .is-table .ensures) (sym (c .before .before .before .check-note-with .ensures) ∙ ap noteOutcome (c .before .enum-told .given .1))
+    note-packable (a .note) (now (a .table)) (within (c .before .before .before .before .before)) _ _ (c .before .before .before .before .is-table .ensures) (sym (c .before .before .before .check-note-with .ensures) ∙ ap noteOutcome (c .before .enum-told .given .1))
 
 enum-known-n : tie.Need-enum-known-n
 enum-known-n c = search needs
@@ -52,7 +52,7 @@ same-length c = search needs
 returns-2 : tie.Need-returns-2
 returns-2 c =
     let a = c .before .before .before .before .before .before .before .before .before .before .before .before .before .before .args in
-    let p = note-packable (a .note) (now (a .table)) (now (a .out)) (within (c .before .before .before .before .before .before .before .before)) _ _ (c .before .before .before .before .before .before .before .is-table .ensures) (sym (c .before .before .before .before .before .before .check-note-with .ensures) ∙ ap noteOutcome (c .before .before .before .before .enum-told .given .1)) in
+    let p = note-packable (a .note) (now (a .table)) (within (c .before .before .before .before .before .before .before .before)) _ _ (c .before .before .before .before .before .before .before .is-table .ensures) (sym (c .before .before .before .before .before .before .check-note-with .ensures) ∙ ap noteOutcome (c .before .before .before .before .enum-told .given .1)) in
     note-written (a .note) (now (a .table)) (now (a .out)) (within (c .before .before .before .before .before .before .before .before)) _ (c .before .before .write-judged .result) p (c .before .before .write-judged .ensures)
 
 returns-3 : tie.Need-returns-3

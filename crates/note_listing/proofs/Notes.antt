@@ -7,7 +7,7 @@ use mathlib.Core.List.{List, [], _∷_, _++_, map}
 use native.Mathlib.Omega.{arith}
 use borrow.Author.Tests.{le-leb}
 use lib.Dec.{leb}
-use lib.Ieee.{Float, binary64, ofBits, ofInt}
+use lib.Ieee.{Float}
 use lib.ListN.{length, take, drop, length-append, length-map}
 use lib.Seq.{take-at}
 use Rattle.paper.specs.Lists.{Every}
@@ -40,10 +40,6 @@ use Rattle.note_lines.specs.Steps.{flowOn, flowsIn}
 use Rattle.note_listing.specs.Listing.{one, noteLines, listing}
 use Rattle.cash_flow.specs.Flows.{dateOn}
 use Rattle.note_listing.specs.Steps.{withDays}
-
-pub one-literal : ofBits binary64 4607182418800017408 ≡ one
-unfolding ofBits ofInt
-one-literal = refl
 
 -- ---- a flow is found again from its serial day and its amount
 

@@ -14,6 +14,7 @@ use Rattle.paper.specs.Lists.{Every}
 use Rattle.paper.specs.Outcome.{Outcome, given, refused, unless, andThen}
 use Rattle.paper.proofs.Outcomes.{given-injective, refused-injective, given-not-refused, then-given}
 use Rattle.room.specs.Room.{fitting, counted, roomAfter}
+use Rattle.room.proofs.Filling.{front-taken}
 use Rattle.room.proofs.Fitting.{fitting-given}
 use Rattle.calendar.specs.Dates.{isDate, dayNumber}
 use Rattle.calendar.specs.Answers.{dateOf}
@@ -61,8 +62,7 @@ flows-back n (f ∷ l) h = rw (flow-back n f (h .0), flows-back n l (h .1))
 -- what stands in front of a list that was written into is what was written
 front : {A B : Type 0} (g : A → B) (l : List A) (old new : List B) (k : ℕ) → length l ≡ k → new ≡ map g l ++ drop (length l) old → (take k new ≡ map g l) × (k ≤ length new)
 front g l old new k e f =
-    let n : length (map g l) ≡ k = length-map l g ∙ e in
-    (ap (take k) f ∙ take-at (map g l) (drop (length l) old) k n, omega (arith, ap length f, length-append (map g l) (drop (length l) old)))
+    (rw (f, ← e) (front-taken g l (drop (length l) old)), omega (arith, ap length f, length-append (map g l) (drop (length l) old), length-map l g))
 
 pub record Rolled (n : Note) (table : List ℕ) (k : ℕ) (days : List ℕ) (amounts : List Float) : Type 0 where
   pub most : k ≤ 2000

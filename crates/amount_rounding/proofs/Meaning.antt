@@ -13,7 +13,7 @@ use lib.Ieee.{Float, nan, inf, fin, up, down, binary64, unlike, round, mul, div,
 use lib.Ieee.Back.{round-whole}
 use lib.Ieee.Exact.{HasValue}
 use lib.Ieee.Fits.{down-pos}
-use lib.Ieee.Positive.{num, den, den-pos}
+use lib.Ieee.Positive.{num, den, den-pos, first-pos}
 use lib.Ieee.Scale.{finite, round-same}
 use borrow.Author.Tests.{leb-true, ne-eqb}
 use Rattle.paper.proofs.Outcomes.{both-true}
@@ -21,7 +21,7 @@ use Rattle.cash_amount.specs.Amounts.{upTo}
 use Rattle.rounding.proofs.Algebra.{Apart}
 use Rattle.rounding.proofs.HalfUnit.{Rounded, round-near}
 use Rattle.rounding.proofs.Near.{in-range}
-use Rattle.rounding.proofs.Operations.{by-value}
+use Rattle.rounding.proofs.Operations.{by-value, some-units}
 use Rattle.amount_rounding.specs.RoundedAmounts.{isWidth, isRoundable, powerOfTen, nearestWhole, roundedAway, roundedBy}
 use Rattle.amount_rounding.proofs.Whole.{nearest-near, nearest-tie}
 
@@ -145,17 +145,11 @@ unfolding div
 quotient-is s w r p P v q Q =
     by-value (λ (r : Float). div binary64 r p ≡ round binary64 s w P) s w 1
     (λ m e i. by-value (λ (p : Float). div binary64 (fin s m e) p ≡ round binary64 s w P) false P 1
-    (λ n d j. let N : 0 < n * up d = some (n * up d) (down d) (down-pos d) j in
-    rw (ne-eqb n 0 (λ z. none n (up d) z N))
+    (λ n d j. let N : 0 < n * up d = some-units (n * up d) 1 P (down d) Q (down-pos d) j in
+    rw (ne-eqb n 0 (λ z. omega (arith, first-pos n (up d) N)))
     (ap (λ (t : Bool). round binary64 t (m * up e * down d) (n * up d * down e)) (own-sign s)
     ∙ round-same binary64 s (m * up e * down d) (n * up d * down e) w P (mul-pos N (down-pos e)) Q (turn (m * up e) (n * up d) (down e) (down d) i j))) p q) r v
   where
-    some : (n d : ℕ) → 0 < d → n * 1 ≡ P * d → 0 < n
-    some n d D j = omega (arith, mul-pos Q D)
-
-    none : (n u : ℕ) → n ≡ 0 → 0 < n * u → ⊥
-    none n u z h = omega (arith, ap (λ (k : ℕ). k * u) z)
-
     turn : (a n c d : ℕ) → a * 1 ≡ w * c → n * 1 ≡ P * d → a * d * P ≡ w * (n * c)
     turn a n c d i j = omega (arith, ap (λ (k : ℕ). k * (d * P)) i, ap (λ (k : ℕ). k * (w * c)) j)
 

@@ -6,12 +6,12 @@ use mathlib.Core.Bool.{true, false, false≢true}
 use native.Mathlib.Omega.{arith}
 use native.Mathlib.Nat.{one-mul}
 use lib.Dec.{T, lit<, lit≤}
-use lib.IntN.{ℤ, pos}
+use lib.IntN.{pos}
 use lib.Ieee.{Float, nan, inf, fin, up, down, binary64, fits}
 use borrow.Author.Tests.{leb-true}
 use Rattle.rounding.specs.Close.{numerator, denominator, Close}
-use Rattle.rounding.proofs.Integers.{plus, minus, Diff, of-int, diff-mul}
-use Rattle.rounding.proofs.Near.{Near, near-int, near-same, near-weaken}
+use Rattle.rounding.proofs.Integers.{plus, minus, of-int, diff-mul}
+use Rattle.rounding.proofs.Near.{Near, near-int, near-signed, near-weaken}
 use Rattle.rounding.proofs.Product.{near-mul, whole-mul}
 use Rattle.rounding.proofs.Quotient.{near-div}
 use Rattle.rounding.proofs.CloseLaws.{near-own, near-close}
@@ -34,11 +34,6 @@ rate-near (fin false m e) f h = near-own (fin false m e) 100 f tt (omega (arith,
 -- an amount is at most 1,000,000 x 10150, and within 1,750,000 / 2^38 of the exact one, which is less than 1 / 157,000
 abbrev pub AmountNear : Float → Exact → Type 0
 AmountNear x q = Near x (plus (q .num)) (minus (q .num)) (q .den) 10150000000 (1750000 * 2 ^ 62)
-
--- a value near (a - b) / d is near N / d, where N is a - b
-pub near-signed : {x : Float} {a b d k e : ℕ} {N : ℤ} → Near x a b d k e → Diff N a b → (d′ : ℕ) → d ≡ d′ → Near x (plus N) (minus N) d′ k e
-near-signed {x} {a} {b} {d} {k} {e} {N} X D d′ same =
-    subst (λ (z : ℕ). Near x (plus N) (minus N) z k e) same (near-same X (plus N) (minus N) d (X .den) (omega (arith, ap (λ (n : ℕ). n * d) (D .is))))
 
 pub interest-near : (nominal : ℕ) (rate x : Float) (q : Exact) → nominal ≤ 1000000 → T (fits binary64 rate) → isRate rate ≡ true → NearTo x q → AmountNear (interestOn (whole (pos nominal)) rate x) (exactInterest nominal rate q)
 interest-near nominal rate x q h f r X =

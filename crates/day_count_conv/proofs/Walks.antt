@@ -1,8 +1,8 @@
 -- The f64 of a walk's parts is near the exact fraction.
 -- Assumes nothing.
 use Prim.Native.Nat.{ℕ, _+_, _*_, _^_, _≤_, _<_, zero-le}
-use mathlib.Core.Path.{_≡_, refl, sym, ap₂, subst}
-use native.Mathlib.Nat.{mul-pos, mul-le-mul-left}
+use mathlib.Core.Path.{_≡_, sym, ap₂, subst}
+use native.Mathlib.Nat.{mul-pos, mul-le-mul-left, le-mul-of-pos-right}
 use native.Mathlib.Omega.{arith}
 use lib.Dec.{lit<, lit≤}
 use lib.IntN.{ℤ, pos, natAbs}
@@ -14,6 +14,7 @@ use Rattle.rounding.proofs.Product.{whole-mul}
 use Rattle.rounding.proofs.Quotient.{near-div}
 use Rattle.day_fraction.specs.Fractions.{over}
 use Rattle.day_fraction.proofs.Bounds.{NearTo, lands}
+use Rattle.day_fraction.proofs.Written.{lit0}
 use Rattle.day_count_conv.specs.Conventions.{partAdded, partsBits, partExact, partsExact}
 use Rattle.time_period.specs.declared.TimePeriodUnit.{TimePeriodUnit}
 use Rattle.icma.specs.declared.Broken.{Broken}
@@ -24,12 +25,8 @@ use Rattle.time_period.proofs.Frequencies.{Regular, one-month, three-months, si
 use Rattle.icma.proofs.Sizes.{BrokenSize, PartsSize}
 
 -- nothing to begin with
-zero-is : ofInt binary64 (pos 0) ≡ ofBits binary64 0
-unfolding ofBits ofInt
-zero-is = refl
-
 zero-near : Near (ofBits binary64 0) 0 0 1 0 0
-zero-near = subst (λ (x : Float). Near x 0 0 1 0 0) zero-is (near-int (pos 0) 0 (omega arith) (lit< tt))
+zero-near = subst (λ (x : Float). Near x 0 0 1 0 0) (sym lit0) (near-int (pos 0) 0 (omega arith) (lit< tt))
 
 -- days over a length that is not much less
 part-near : (d : ℤ) (l : ℕ) → 1 ≤ l → l ≤ 3652059 → natAbs d ≤ l + 30 → Near (over d l) (plus d) (minus d) l 32 (2 ^ 52)
@@ -70,14 +67,11 @@ long-near first last n f t sf sl lf uf lt room few most err small =
 -- days / (length x frequency)
 short-near : (days l f : ℕ) → 1 ≤ f → f ≤ 12 → 1 ≤ l → l ≤ 3652059 → days ≤ l + 30 → NearTo (partsBits f (Short days l)) (partsExact f (Short days l))
 short-near days l f lf uf h k s =
-    let q : l ≤ l * f = long l f lf in
+    let q : l ≤ l * f = le-mul-of-pos-right l lf in
     let r : l * f ≤ l * 12 = mul-le-mul-left l uf in
     let X = near-div (near-int (pos days) days (omega arith) (omega arith)) (l * f) 32 0 6 (omega arith) (omega arith) (omega arith) zero-le (lit≤ tt) (omega arith) (lit< tt) in
     let Y = subst (λ (y : Float). Near (div binary64 (ofInt binary64 (pos days)) y) days 0 (1 * (l * f)) 32 (0 + 2 ^ (46 + 6))) (sym (whole-mul l f (omega arith) (omega arith))) X in
     lands (partsExact f (Short days l)) Y (of-int (pos days)) (omega arith) (omega arith) (lit≤ tt) (lit≤ tt)
-  where
-    long : (l f : ℕ) → 1 ≤ f → l ≤ l * f
-    long l f h = omega (arith, mul-le-mul-left l h)
 
 -- by the frequency: a count of n periods of m months is below the power of two that the frequency allows
 pub walk-near : (u : TimePeriodUnit) (n f : ℕ) (x : Parts) → Regular u n f → PartsSize (monthsIn u n) x → NearTo (partsBits f x) (partsExact f x)

@@ -1,6 +1,6 @@
 -- Every rule's `f64` is within 1 / 2 ^ 38 of its exact value, on every two dates.
 -- Assumes nothing.
-use mathlib.Core.Path.{_≡_, refl, ap}
+use mathlib.Core.Path.{_≡_, refl}
 use Prim.Native.Nat.{ℕ, _+_, _*_, _^_, _≤_, _<_, zero-le}
 use native.Mathlib.Nat.{mul-pos}
 use native.Mathlib.Omega.{arith}
@@ -14,7 +14,7 @@ use Rattle.calendar.specs.declared.Date.{Date}
 use Rattle.calendar.proofs.Dates.{IsDate, number-from, number-to}
 use Rattle.rounding.proofs.Algebra.{ring}
 use Rattle.rounding.proofs.Integers.{plus, minus, Diff, of-int, diff-add, diff-sub, diff-scale, diff-lscale, size-is}
-use Rattle.rounding.proofs.Near.{Near, near-int, near-add, near-sub, near-same, near-weaken}
+use Rattle.rounding.proofs.Near.{Near, near-int, near-add, near-sub, near-same, near-signed, near-weaken}
 use Rattle.rounding.proofs.Quotient.{near-div}
 use Rattle.rounding.proofs.CloseLaws.{near-close}
 use Rattle.rounding.proofs.Gap.{abs-gap}
@@ -36,7 +36,7 @@ near-to-close q N = near-close N (of-int (q .num)) _ (q .den) refl (lit≤ tt)
 -- a value near (a - b) / c is near the exact value, where that is the same fraction
 pub lands : {x : Float} {a b c k e A B : ℕ} (q : Exact) → Near x a b c k e → Diff (q .num) A B → 0 < q .den → a * q .den + B * c ≡ A * c + b * q .den → k ≤ 10150 → e ≤ 2 ^ 62 → NearTo x q
 lands {x} {a} {b} {c} {k} {e} {A} {B} q X D P same h l =
-    near-weaken (near-same (near-same X A B (q .den) P same) (plus (q .num)) (minus (q .num)) (q .den) P (omega (arith, ap (λ (n : ℕ). n * q .den) (D .is)))) 10150 (2 ^ 62) h l
+    near-weaken (near-signed (near-same X A B (q .den) P same) D (q .den) refl) 10150 (2 ^ 62) h l
 
 -- days / base
 act-near : (z : ℤ) (base : ℕ) → natAbs z ≤ 3652058 → 360 ≤ base → base ≤ 365 → NearTo (over z base) (record { num = z; den = base })

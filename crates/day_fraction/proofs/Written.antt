@@ -6,6 +6,14 @@ use lib.IntN.{ℤ, pos}
 use lib.Ieee.{Float, binary64, add, div, ofInt, ofBits}
 use Rattle.day_fraction.specs.Fractions.{whole, over, thirtiesBits}
 
+pub lit0 : ofBits binary64 0 ≡ whole (pos 0)
+unfolding ofBits ofInt
+lit0 = refl
+
+pub lit1 : ofBits binary64 0x3ff0_0000_0000_0000 ≡ whole (pos 1)
+unfolding ofBits ofInt
+lit1 = refl
+
 lit12 : ofBits binary64 0x4028_0000_0000_0000 ≡ whole (pos 12)
 unfolding ofBits ofInt
 lit12 = refl

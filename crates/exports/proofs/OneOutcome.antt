@@ -153,7 +153,7 @@ module _ (o : Outcome Note) (h : Numbered o) where
   check-face-numbered = then-numbered o _ h (checks-numbered true true)
 
   pub rollout-face-numbered : (position : Float) (table days : List ℕ) (amounts : List Float) → Numbered (andThen o (λ n. passedAs (flowsIn days amounts) (fitted n position table days amounts)))
-  rollout-face-numbered position table days amounts = then-numbered o _ h (λ n. passed-numbered _ (fitted n position table days amounts) (rollout-numbered n position table days amounts))
+  rollout-face-numbered position table days amounts = then-numbered o _ h (λ n. passed-numbered _ (fitted n position table days amounts) (rollout-numbered n position table _))
 
   pub accrued-face-numbered : (today : Date) → Numbered (andThen o (λ n. accrued interest.inBits n today))
   accrued-face-numbered today = then-numbered o _ h (λ n. accrued-numbered interest.inBits n today)

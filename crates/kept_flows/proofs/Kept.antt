@@ -6,19 +6,21 @@ use mathlib.Core.Bool.{Bool}
 use mathlib.Core.Logic.{_⊎_, ⊎-elim}
 use mathlib.Core.List.{List, [], _∷_, map}
 use native.Mathlib.Omega.{arith}
-use lib.ListN.{length, take, drop, getD, length-map}
-use lib.Seq.{drop-drop, take-at}
+use lib.ListN.{length, take, drop, getD}
+use lib.Seq.{drop-drop}
 use lib.Ieee.{Float, nan}
 use denote.Enum.Declared.{tagOf, declared}
 use Rattle.paper.proofs.Lists.{head-at, every-at}
 use Rattle.paper.specs.Outcome.{Outcome, given, refused}
 use Rattle.paper.proofs.Outcomes.{given-injective, given-not-refused}
 use Rattle.room.specs.Room.{fitting, counted, roomAfter}
+use Rattle.room.proofs.Filling.{front-taken}
 use Rattle.calendar.specs.Dates.{theDate}
 use Rattle.calendar.specs.declared.Date.{Date}
 use Rattle.calendar.proofs.Dates.{date-yes, date-found, number-from, number-to}
 use Rattle.cash_amount.specs.declared.Currency.{Currency}
 use Rattle.cash_flow.specs.declared.CashFlow.{CashFlow}
+use Rattle.cash_flow.proofs.NoFlow.{noFlow}
 use Rattle.holidays.specs.Table.{isTable}
 use Rattle.bond.specs.Notes.{isPosition, noteChecks}
 use Rattle.bond.specs.declared.Note.{Note}
@@ -60,8 +62,8 @@ module _ (n : Note) (position : Float) (table : List ℕ) (j : Judged n position
     hold = λ l g h.
         let e : noteFlows n position table ≡ given l = sym (all-flows n position table j) ∙ g in
         let q = k .hold (length l) (ap counted e) (omega (arith, ld)) (omega (arith, la)) in (
-          ap (take (length l)) (q .0 ∙ ap (λ (o : Outcome (List CashFlow)). roomAfter dayOf o days) e) ∙ take-at (map dayOf l) (drop (length l) days) (length l) (length-map l dayOf),
-          ap (take (length l)) (q .1 ∙ ap (λ (o : Outcome (List CashFlow)). roomAfter amountOf o amounts) e) ∙ take-at (map amountOf l) (drop (length l) amounts) (length l) (length-map l amountOf),
+          ap (take (length l)) (q .0 ∙ ap (λ (o : Outcome (List CashFlow)). roomAfter dayOf o days) e) ∙ front-taken dayOf l (drop (length l) days),
+          ap (take (length l)) (q .1 ∙ ap (λ (o : Outcome (List CashFlow)). roomAfter amountOf o amounts) e) ∙ front-taken amountOf l (drop (length l) amounts),
         );
   }
 
@@ -74,20 +76,16 @@ element part (x ∷ l) [] k d e q h = let z : 0 ≡ suc (length (map part l)) = 
 element part (x ∷ l) (y ∷ kept) zero d e q h = ap (λ (m : List _). getD m 0 e) q
 element part (x ∷ l) (y ∷ kept) (suc k) d e q h = element part l kept k d e (ap (drop 1) q) (omega arith)
 
--- any record
-any : CashFlow
-any = record { date = record { year = 1; month = 1; day = 1 }; currency = record { first = 65; second = 65; third = 65 }; amount = nan }
-
 module _ (n : Note) (position : Float) (table days : List ℕ) (amounts : List Float) (count k : ℕ) (due : Due) (c : Coming n position table days amounts count k due) (h : k < count) where
   inside : k < length (c .flows)
   inside = omega (arith, c .many)
 
   flow-k : CashFlow
-  flow-k = getD (c .flows) k any
+  flow-k = getD (c .flows) k noFlow
 
   of-note : OfNote n flow-k
   unfolding flow-k
-  of-note = every-at (OfNote n) (c .flows) k any (flows-of n position table (judged-note n position table (c .judged)) (c .flows) (c .are) .0) inside
+  of-note = every-at (OfNote n) (c .flows) k noFlow (flows-of n position table (judged-note n position table (c .judged)) (c .flows) (c .are) .0) inside
 
   module _ (f : count ≤ 256) where
     pub kept-long : k < 256
@@ -95,11 +93,11 @@ module _ (n : Note) (position : Float) (table days : List ℕ) (amounts : List F
 
     kept-day : getD days k 0 ≡ dayOf flow-k
     unfolding flow-k
-    kept-day = element dayOf (c .flows) days k any 0 (ap (λ (m : ℕ). take m days) (c .many) ∙ c .kept f .0) inside
+    kept-day = element dayOf (c .flows) days k noFlow 0 (ap (λ (m : ℕ). take m days) (c .many) ∙ c .kept f .0) inside
 
     kept-amount : getD amounts k nan ≡ amountOf flow-k
     unfolding flow-k
-    kept-amount = element amountOf (c .flows) amounts k any nan (ap (λ (m : ℕ). take m amounts) (c .many) ∙ c .kept f .1) inside
+    kept-amount = element amountOf (c .flows) amounts k noFlow nan (ap (λ (m : ℕ). take m amounts) (c .many) ∙ c .kept f .1) inside
 
     pub kept-dated : (1 ≤ getD days k 0) × (getD days k 0 ≤ 3652059)
     kept-dated =
@@ -119,7 +117,7 @@ module _ (n : Note) (position : Float) (table days : List ℕ) (amounts : List F
     came-kept x e = record {
       flow = λ l g.
           let q : c .flows ≡ l = given-injective (sym (c .are) ∙ g) in
-          subst (λ (m : List CashFlow). drop k m ≡ x ∷ drop (k + 1) m) q (head-at (c .flows) k any inside ∙ ap (λ (y : CashFlow). y ∷ drop (k + 1) (c .flows)) (sym (e ∙ same)));
+          subst (λ (m : List CashFlow). drop k m ≡ x ∷ drop (k + 1) m) q (head-at (c .flows) k noFlow inside ∙ ap (λ (y : CashFlow). y ∷ drop (k + 1) (c .flows)) (sym (e ∙ same)));
       due = λ l g m. absurd (omega arith);
       same = λ _. refl;
     }
@@ -134,7 +132,7 @@ module _ (n : Note) (position : Float) (table days : List ℕ) (amounts : List F
     must-pay (Stop j) t e = given-not-refused (sym (c .next f .1) ∙ t)
     must-pay End t e =
         let z : drop k (c .flows) ≡ [] = given-injective (sym (c .next f .1) ∙ t) in
-        let w : suc (length (drop (k + 1) (c .flows))) ≡ 0 = ap length (sym (head-at (c .flows) k any inside) ∙ z) in
+        let w : suc (length (drop (k + 1) (c .flows))) ≡ 0 = ap length (sym (head-at (c .flows) k noFlow inside) ∙ z) in
         omega arith
 
     pub came-due : (x : CashFlow) (next : Due) → Pays n position table due x next → Came n position table count k due x next

@@ -2,14 +2,15 @@
 -- Assumes nothing.
 use Prim.Native.Nat.{ℕ, suc, _+_, _≤_, _<_}
 use mathlib.Core.Path.{_≡_, refl, sym, _∙_, ap}
-use mathlib.Core.List.{List, [], _∷_, _++_, map}
+use mathlib.Core.List.{List, [], _∷_, map}
 use native.Mathlib.Omega.{arith}
-use lib.ListN.{length, drop, set, length-set}
+use lib.ListN.{length, set, length-set}
 use lib.Ieee.{Float}
-use Rattle.paper.specs.Outcome.{Outcome, given, refused}
+use Rattle.paper.specs.Outcome.{Outcome, given, refused, value}
 use Rattle.paper.proofs.Outcomes.{given-injective, given-not-refused}
+use Rattle.paper.proofs.Tallies.{tally, tally-none, tally-more, tally-end}
 use Rattle.room.specs.Room.{counted, roomAfter}
-use Rattle.room.proofs.Filling.{Filled, filled-none, filled-more, filled-all}
+use Rattle.room.proofs.Filling.{Filled, filled-none, filled-more, filled-all, count-is, room-is}
 use Rattle.cash_flow.specs.declared.CashFlow.{CashFlow}
 use Rattle.bond.specs.declared.Note.{Note}
 use Rattle.note_flows.specs.NoteFlows.{followed, noteFlows, dayOf, amountOf}
@@ -18,30 +19,17 @@ use Rattle.note_flows.specs.Turns.{flowsDue, most, Pays, Kept}
 use Rattle.coupon_dues.specs.declared.Due.{Due}
 use Rattle.coupon_dues.specs.declared.Due.the-variants.{First}
 
--- k flows and those of an outcome; and its flows
-abbrev pub tally : ℕ → Outcome (List CashFlow) → Outcome ℕ
-tally k (given l) = given (k + length l)
-tally k (refused n) = refused n
-
-abbrev pub flowsOf : Outcome (List CashFlow) → List CashFlow
-flowsOf (given l) = l
-flowsOf (refused n) = []
-
-tally-none : (o : Outcome (List CashFlow)) → tally 0 o ≡ counted o
-tally-none (given l) = ap given (omega arith)
-tally-none (refused n) = refl
-
-tally-more : (k : ℕ) (x : CashFlow) (o : Outcome (List CashFlow)) → tally k (followed (given x) o) ≡ tally (k + 1) o
-tally-more k x (given l) = ap given (omega arith)
-tally-more k x (refused n) = refl
+-- a flow is counted
+tally-flow : (k : ℕ) (x : CashFlow) (o : Outcome (List CashFlow)) → tally k (followed (given x) o) ≡ tally (k + 1) o
+tally-flow k x o = tally-more k (x ∷ []) o
 
 -- what is counted is given
-flows-more : (k m : ℕ) (x : CashFlow) (o : Outcome (List CashFlow)) → tally k o ≡ given m → flowsOf (followed (given x) o) ≡ x ∷ flowsOf o
+flows-more : (k m : ℕ) (x : CashFlow) (o : Outcome (List CashFlow)) → tally k o ≡ given m → value [] (followed (given x) o) ≡ x ∷ value [] o
 flows-more k m x (given l) e = refl
 flows-more k m x (refused n) e = absurd (given-not-refused (sym e))
 
 -- where all are counted none is left
-none-left : (k m : ℕ) (o : Outcome (List CashFlow)) → tally k o ≡ given m → m ≤ k → flowsOf o ≡ []
+none-left : (k m : ℕ) (o : Outcome (List CashFlow)) → tally k o ≡ given m → m ≤ k → value [] o ≡ []
 none-left k m (given []) e h = refl
 none-left k m (given (x ∷ l)) e h = let z : k + suc (length l) ≡ m = given-injective e in absurd (omega arith)
 none-left k m (refused n) e h = refl
@@ -50,11 +38,6 @@ none-left k m (refused n) e h = refl
 one-more : (k m : ℕ) (o : Outcome (List CashFlow)) → tally (k + 1) o ≡ given m → k < m
 one-more k m (given l) e = let z : k + 1 + length l ≡ m = given-injective e in omega arith
 one-more k m (refused n) e = absurd (given-not-refused (sym e))
-
--- what the room holds afterwards, by the flows and their count
-after-is : {B : Type 0} (part : CashFlow → B) (o : Outcome (List CashFlow)) (m : ℕ) (old : List B) → counted o ≡ given m → map part (flowsOf o) ++ drop m old ≡ roomAfter part o old
-after-is part (given l) m old e = ap (λ (k : ℕ). map part l ++ drop k old) (sym (given-injective e))
-after-is part (refused n) m old e = absurd (given-not-refused (sym e))
 
 module _ (n : Note) (position : Float) (table : List ℕ) where
   -- ---- the first pass
@@ -72,14 +55,14 @@ module _ (n : Note) (position : Float) (table : List ℕ) where
     counting-more {x} {next} p = record {
       dated = p .dated;
       few = omega (arith, c .few, p .fewer);
-      whole = sym (tally-more k x (flowsDue n position table next)) ∙ sym (ap (tally k) (p .left)) ∙ c .whole;
+      whole = sym (tally-flow k x (flowsDue n position table next)) ∙ sym (ap (tally k) (p .left)) ∙ c .whole;
     }
 
     pub counting-stop : {m : ℕ} → flowsDue n position table due ≡ refused m → refused m ≡ counted (noteFlows n position table)
     counting-stop e = sym (ap (tally k) e) ∙ c .whole
 
     pub counting-end : flowsDue n position table due ≡ given [] → given k ≡ counted (noteFlows n position table)
-    counting-end e = ap {B = Outcome ℕ} given (omega arith) ∙ sym (ap (tally k) e) ∙ c .whole
+    counting-end e = sym (tally-end k (flowsDue n position table due) e) ∙ c .whole
 
   -- ---- the second pass
 
@@ -88,8 +71,8 @@ module _ (n : Note) (position : Float) (table : List ℕ) where
       pub dated : Dated due
       pub within : k ≤ m
       pub whole : tally k (flowsDue n position table due) ≡ given m
-      pub days-at : Filled (map dayOf (flowsOf (noteFlows n position table))) days₀ k (map dayOf (flowsOf (flowsDue n position table due))) days
-      pub amounts-at : Filled (map amountOf (flowsOf (noteFlows n position table))) amounts₀ k (map amountOf (flowsOf (flowsDue n position table due))) amounts
+      pub days-at : Filled (map dayOf (value [] (noteFlows n position table))) days₀ k (map dayOf (value [] (flowsDue n position table due))) days
+      pub amounts-at : Filled (map amountOf (value [] (noteFlows n position table))) amounts₀ k (map amountOf (value [] (flowsDue n position table due))) amounts
 
     pub writing-none : counted (noteFlows n position table) ≡ given m → Writing days₀ amounts₀ 0 First
     writing-none e = record {
@@ -104,8 +87,8 @@ module _ (n : Note) (position : Float) (table : List ℕ) where
       pub writing-more : {day : ℕ} {x : CashFlow} {next : Due} → Pays n position table due x next × (day ≡ dayOf x) → k < m → k < length days → k < length amounts → Writing (set days k day) (set amounts k (amountOf x)) (k + 1) next
       writing-more {day} {x} {next} (p, d) h ld la =
           let o = flowsDue n position table next in
-          let t : tally (k + 1) o ≡ given m = sym (tally-more k x o) ∙ sym (ap (tally k) (p .left)) ∙ w .whole in
-          let f : flowsOf (flowsDue n position table due) ≡ x ∷ flowsOf o = ap flowsOf (p .left) ∙ flows-more (k + 1) m x o t in
+          let t : tally (k + 1) o ≡ given m = sym (tally-flow k x o) ∙ sym (ap (tally k) (p .left)) ∙ w .whole in
+          let f : value [] (flowsDue n position table due) ≡ x ∷ value [] o = ap (value []) (p .left) ∙ flows-more (k + 1) m x o t in
           record {
             dated = p .dated;
             within = omega arith;
@@ -116,10 +99,11 @@ module _ (n : Note) (position : Float) (table : List ℕ) where
 
       pub writing-done : counted (noteFlows n position table) ≡ given m → m ≤ k → (days ≡ roomAfter dayOf (noteFlows n position table) days₀) × (amounts ≡ roomAfter amountOf (noteFlows n position table) amounts₀)
       writing-done c h =
-          let f : flowsOf (flowsDue n position table due) ≡ [] = none-left k m (flowsDue n position table due) (w .whole) h in
-          let e : k ≡ m = omega (arith, w .within) in (
-            rw e at (filled-all _ _ k days (rw (ap (map dayOf) f) at (w .days-at))) ∙ after-is dayOf (noteFlows n position table) m days₀ c,
-            rw e at (filled-all _ _ k amounts (rw (ap (map amountOf) f) at (w .amounts-at))) ∙ after-is amountOf (noteFlows n position table) m amounts₀ c,
+          let f : value [] (flowsDue n position table due) ≡ [] = none-left k m (flowsDue n position table due) (w .whole) h in
+          let all : m ≡ length (value [] (noteFlows n position table)) = sym (ap (value 0) c) ∙ count-is (noteFlows n position table) in
+          let e : k ≡ length (value [] (noteFlows n position table)) = omega (arith, w .within) in (
+            rw e at (filled-all _ _ k days (rw (ap (map dayOf) f) at (w .days-at))) ∙ room-is dayOf (noteFlows n position table) days₀,
+            rw e at (filled-all _ _ k amounts (rw (ap (map amountOf) f) at (w .amounts-at))) ∙ room-is amountOf (noteFlows n position table) amounts₀,
           )
 
   -- ---- the first pass, which keeps the flows where there are places for all
@@ -142,7 +126,7 @@ module _ (n : Note) (position : Float) (table : List ℕ) where
         as-many-amounts = length-set amounts k (amountOf x) ∙ c .as-many-amounts;
         writing = λ m e ld la.
             let w = c .writing m e ld la in
-            let h : k < m = one-more k m (flowsDue n position table next) (sym (tally-more k x (flowsDue n position table next)) ∙ sym (ap (tally k) (p .left)) ∙ w .whole) in
+            let h : k < m = one-more k m (flowsDue n position table next) (sym (tally-flow k x (flowsDue n position table next)) ∙ sym (ap (tally k) (p .left)) ∙ w .whole) in
             writing-more m days₀ amounts₀ w (p, d) h (omega (arith, c .as-many-days)) (omega (arith, c .as-many-amounts));
       }
 

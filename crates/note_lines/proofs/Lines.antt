@@ -11,36 +11,23 @@ use lib.Ieee.Scale.{finite}
 use lib.ListN.{length, drop, getD, length-append, drop-of-length-le}
 use Rattle.paper.proofs.Lists.{head-at}
 use Rattle.paper.specs.Outcome.{Outcome, given, refused, andThen, passedAs}
-use Rattle.paper.proofs.Outcomes.{given-injective, refused-injective, given-not-refused, unless-given, passed-given, passed-refused}
+use Rattle.paper.proofs.Outcomes.{given-injective, refused-injective, given-not-refused, passed-given, passed-refused}
+use Rattle.paper.proofs.Tallies.{tally, tally-more}
 use Rattle.text.specs.Writing.{put, Wrote, Written, Takes}
 use Rattle.text.proofs.Writers.{written-fits, written-refused}
 use Rattle.text.proofs.Putting.{put-none, put-put, length-put}
 use Rattle.text.specs.declared.LengthAnswer.the-variants.{Length, Refused}
 use Rattle.calendar.specs.Dates.{isDate}
-use Rattle.cash_amount.specs.Amounts.{isCurrency}
 use Rattle.cash_amount.specs.declared.Currency.{Currency}
 use Rattle.cash_flow.specs.declared.CashFlow.{CashFlow}
 use Rattle.cash_flow_text.specs.Texts.{flowText, flowShown}
+use Rattle.cash_flow_text.proofs.Answers.{flow-was}
 use Rattle.cash_flow_text.proofs.Lengths.{flow-most}
 use Rattle.refusal_text.specs.RefusalTexts.{refusedText}
 use Rattle.note_lines.specs.Lines.{lineShown, linesOf, answerText}
 use Rattle.note_lines.specs.Steps.{flowOn, flowsIn, textOf, LineFits}
 
 -- ---- one line
-
--- a flow that is shown: its text, an amount that is finite, a date that exists
-pub record Seen (f : CashFlow) (t : List ℕ) : Type 0 where
-  pub text : flowText f ≡ t
-  pub amount : finite (f .amount) ≡ true
-  pub date : isDate (f .date) ≡ true
-
-pub seen : (f : CashFlow) (t : List ℕ) → flowShown f ≡ given t → Seen f t
-unfolding flowShown
-seen f t e =
-    let a = unless-given (finite (f .amount)) 15 _ t e in
-    let b = unless-given (isCurrency (f .currency)) 17 _ t (a .1) in
-    let c = unless-given (isDate (f .date)) 1 (given (flowText f)) t (b .1) in
-    record { text = given-injective (c .1); amount = a .0; date = c .0 }
 
 pub line-given : (f : CashFlow) (t : List ℕ) → flowShown f ≡ given t → lineShown f ≡ given (t ++ (10 ∷ []))
 unfolding lineShown
@@ -53,10 +40,10 @@ line-refused f n e = rw (e)
 pub line-takes : (f : CashFlow) (k : ℕ) → T (fits binary64 (f .amount)) → given k ≡ passedAs length (flowShown f) → (Takes (lineShown f) (Length (k + 1))) × (k + 1 ≤ 331)
 line-takes f k h e =
     let g = passed-given length (flowShown f) k (sym e) in
-    let s = seen f (g .0) (g .1) in
+    let s = flow-was f (g .0) (g .1) in
     let n : length (g .0) ≡ k = g .2 in
-    let most : length (flowText f) ≤ 330 = flow-most f h (s .amount) (s .date) in
-    let same : length (flowText f) ≡ length (g .0) = ap length (s .text) in
+    let most : length (flowText f) ≤ 330 = flow-most f h (s .0) (s .1) in
+    let same : length (flowText f) ≡ length (g .0) = ap length (s .2) in
     (rw (line-given f (g .0) (g .1), length-append (g .0) (10 ∷ []), n), omega arith)
 
 pub line-takes-none : (f : CashFlow) (n : ℕ) → refused n ≡ passedAs length (flowShown f) → Takes (lineShown f) (Refused n)
@@ -81,43 +68,24 @@ unfolding linesOf
 lines-none = refl
 
 -- what is left decides how long they are
-pub measured : ℕ → Outcome (List ℕ) → Outcome ℕ
-measured total o = andThen o (λ t. given (total + length t))
-
-pub measured-all : (o : Outcome (List ℕ)) → measured 0 o ≡ passedAs length o
-unfolding measured
-measured-all (given t) = ap given (omega arith)
-measured-all (refused n) = refl
-
-pub measured-none : (total : ℕ) → measured total (linesOf []) ≡ given total
-unfolding measured
-measured-none total = rw (lines-none) (ap given (omega arith))
-
-measured-then : (total : ℕ) (t : List ℕ) (o : Outcome (List ℕ)) → measured total (andThen o (λ rest. given (t ++ rest))) ≡ measured (total + length t) o
-unfolding measured
-measured-then total t (given rest) = ap given (omega (arith, length-append t rest))
-measured-then total t (refused n) = refl
-
-pub measured-more : (total k : ℕ) (f : CashFlow) (fs : List CashFlow) (z : Outcome ℕ) → measured total (linesOf (f ∷ fs)) ≡ z → given k ≡ passedAs length (lineShown f) → measured (total + k) (linesOf fs) ≡ z
-unfolding measured
-measured-more total k f fs z e h =
+pub tally-line : (total k : ℕ) (f : CashFlow) (fs : List CashFlow) (z : Outcome ℕ) → tally total (linesOf (f ∷ fs)) ≡ z → given k ≡ passedAs length (lineShown f) → tally (total + k) (linesOf fs) ≡ z
+tally-line total k f fs z e h =
     let g = passed-given length (lineShown f) k (sym h) in
     let n : length (g .0) ≡ k = g .2 in
     let line : linesOf (f ∷ fs) ≡ andThen (linesOf fs) (λ rest. given (g .0 ++ rest)) = lines-cons f fs ∙ ap (λ (o : Outcome (List ℕ)). andThen o (λ t. andThen (linesOf fs) (λ rest. given (t ++ rest)))) (g .1) in
-    ap (λ (j : ℕ). measured (total + j) (linesOf fs)) (sym n) ∙ sym (measured-then total (g .0) (linesOf fs)) ∙ ap (measured total) (sym line) ∙ e
+    ap (λ (j : ℕ). tally (total + j) (linesOf fs)) (sym n) ∙ sym (tally-more total (g .0) (linesOf fs)) ∙ ap (tally total) (sym line) ∙ e
 
-pub measured-refused : (total n : ℕ) (f : CashFlow) (fs : List CashFlow) (z : Outcome ℕ) → measured total (linesOf (f ∷ fs)) ≡ z → refused n ≡ passedAs length (lineShown f) → refused n ≡ z
-unfolding measured
-measured-refused total n f fs z e h =
+pub tally-refused : (total n : ℕ) (f : CashFlow) (fs : List CashFlow) (z : Outcome ℕ) → tally total (linesOf (f ∷ fs)) ≡ z → refused n ≡ passedAs length (lineShown f) → refused n ≡ z
+tally-refused total n f fs z e h =
     let g : lineShown f ≡ refused n = passed-refused length (lineShown f) n (sym h) in
     let line : linesOf (f ∷ fs) ≡ refused n = lines-cons f fs ∙ ap (λ (o : Outcome (List ℕ)). andThen o (λ t. andThen (linesOf fs) (λ rest. given (t ++ rest)))) g in
-    sym (ap (measured total) line) ∙ e
+    sym (ap (tally total) line) ∙ e
 
 -- ---- lines written one after the other
 
--- a line that has room: its flow is seen, and its text is one byte longer
+-- a line that has room: its flow is shown, and its text is one byte longer
 pub record Fitting (f : CashFlow) (places at : ℕ) : Type 0 where
-  pub seen-so : Seen f (flowText f)
+  pub shown : (finite (f .amount) ≡ true) × (isDate (f .date) ≡ true)
   pub text : textOf (lineShown f) ≡ flowText f ++ (10 ∷ [])
   pub room : at + length (flowText f) + 1 ≤ places
 
@@ -127,11 +95,11 @@ line-fitting f places at h = by (flowShown f) refl
     by : (o : Outcome (List ℕ)) → flowShown f ≡ o → Fitting f places at
     by (refused n) e = absurd (subst (λ (x : Outcome (List ℕ)). LineFits x places at) (line-refused f n e) h)
     by (given t) e =
-        let s = seen f t e in
-        let l : lineShown f ≡ given (flowText f ++ (10 ∷ [])) = line-given f t e ∙ ap (λ (x : List ℕ). given (x ++ (10 ∷ []))) (sym (s .text)) in
+        let s = flow-was f t e in
+        let l : lineShown f ≡ given (flowText f ++ (10 ∷ [])) = line-given f t e ∙ ap (λ (x : List ℕ). given (x ++ (10 ∷ []))) (sym (s .2)) in
         let r : at + length (flowText f ++ (10 ∷ [])) ≤ places = subst (λ (x : Outcome (List ℕ)). LineFits x places at) l h in
         record {
-          seen-so = record { text = refl; amount = s .amount; date = s .date };
+          shown = (s .0, s .1);
           text = ap textOf l;
           room = omega (arith, length-append (flowText f) (10 ∷ []));
         }

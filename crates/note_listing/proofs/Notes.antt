@@ -7,13 +7,14 @@ use mathlib.Core.List.{List, [], _∷_, _++_, map}
 use native.Mathlib.Omega.{arith}
 use borrow.Author.Tests.{le-leb}
 use lib.Dec.{leb}
-use lib.Ieee.{Float, binary64, ofBits, ofInt}
+use lib.Ieee.{Float}
 use lib.ListN.{length, take, drop, length-append, length-map}
 use lib.Seq.{take-at}
 use Rattle.paper.specs.Lists.{Every}
 use Rattle.paper.specs.Outcome.{Outcome, given, refused, unless, andThen}
 use Rattle.paper.proofs.Outcomes.{given-injective, refused-injective, given-not-refused, then-given}
-use Rattle.room.specs.Room.{fitting, counted, roomAfter}
+use Rattle.room.specs.Room.{counted, roomAfter}
+use Rattle.room.proofs.Filling.{front-taken}
 use Rattle.room.proofs.Fitting.{fitting-given}
 use Rattle.calendar.specs.Dates.{isDate, dayNumber}
 use Rattle.calendar.specs.Answers.{dateOf}
@@ -24,7 +25,7 @@ use Rattle.cash_flow.specs.declared.FlowsAnswer.{FlowsAnswer}
 use Rattle.cash_flow.specs.declared.FlowsAnswer.the-variants as flows-answer
 use Rattle.bond.specs.declared.Note.{Note}
 use Rattle.note_flows.specs.NoteFlows.{dayOf, amountOf}
-use Rattle.rollout.specs.Rollout.{cashFlows, fitted, RolloutPromise}
+use Rattle.rollout.specs.Rollout.{cashFlows, fitted, fittedIn, RolloutPromise}
 use Rattle.note_flows.proofs.Flows.{OfNote}
 use Rattle.rollout.proofs.Passes.{cash-flows-of}
 use Rattle.packed_table.specs.Tables.{tableCount, tableDays}
@@ -40,10 +41,6 @@ use Rattle.note_lines.specs.Steps.{flowOn, flowsIn}
 use Rattle.note_listing.specs.Listing.{one, noteLines, listing}
 use Rattle.cash_flow.specs.Flows.{dateOn}
 use Rattle.note_listing.specs.Steps.{withDays}
-
-pub one-literal : ofBits binary64 4607182418800017408 ≡ one
-unfolding ofBits ofInt
-one-literal = refl
 
 -- ---- a flow is found again from its serial day and its amount
 
@@ -65,8 +62,7 @@ flows-back n (f ∷ l) h = rw (flow-back n f (h .0), flows-back n l (h .1))
 -- what stands in front of a list that was written into is what was written
 front : {A B : Type 0} (g : A → B) (l : List A) (old new : List B) (k : ℕ) → length l ≡ k → new ≡ map g l ++ drop (length l) old → (take k new ≡ map g l) × (k ≤ length new)
 front g l old new k e f =
-    let n : length (map g l) ≡ k = length-map l g ∙ e in
-    (ap (take k) f ∙ take-at (map g l) (drop (length l) old) k n, omega (arith, ap length f, length-append (map g l) (drop (length l) old)))
+    (rw (f, ← e) (front-taken g l (drop (length l) old)), omega (arith, ap length f, length-append (map g l) (drop (length l) old), length-map l g))
 
 pub record Rolled (n : Note) (table : List ℕ) (k : ℕ) (days : List ℕ) (amounts : List Float) : Type 0 where
   pub most : k ≤ 2000
@@ -77,22 +73,22 @@ pub record Rolled (n : Note) (table : List ℕ) (k : ℕ) (days : List ℕ) (amo
 places : (a b : ℕ) → a ≡ 2000 → b ≡ 2000 → min a b ≡ 2000
 places a b e f = omega arith
 
-lines-given : (n : Note) (table : List ℕ) (l : List CashFlow) → fitting 2000 (cashFlows n one table) ≡ given l → noteLines (withDays n table) ≡ linesOf l
+lines-given : (n : Note) (table : List ℕ) (l : List CashFlow) → fittedIn n one table 2000 ≡ given l → noteLines (withDays n table) ≡ linesOf l
 unfolding noteLines
 lines-given n table l e = rw (e)
 
-lines-refused : (n : Note) (table : List ℕ) (k : ℕ) → fitting 2000 (cashFlows n one table) ≡ refused k → noteLines (withDays n table) ≡ refused k
+lines-refused : (n : Note) (table : List ℕ) (k : ℕ) → fittedIn n one table 2000 ≡ refused k → noteLines (withDays n table) ≡ refused k
 unfolding noteLines
 lines-refused n table k e = rw (e)
 
 module _ (n : Note) (table days days′ : List ℕ) (amounts amounts′ : List Float) (a : length days ≡ 2000) (b : length amounts ≡ 2000) where
-  in-2000 : fitted n one table days amounts ≡ fitting 2000 (cashFlows n one table)
-  in-2000 = ap (λ (k : ℕ). fitting k (cashFlows n one table)) (places (length days) (length amounts) a b)
+  in-2000 : fitted n one table days amounts ≡ fittedIn n one table 2000
+  in-2000 = ap (fittedIn n one table) (places (length days) (length amounts) a b)
 
   pub rolled : (k : ℕ) → RolloutPromise n one table days amounts (flows-answer.Flows k) days′ amounts′ → Rolled n table k days′ amounts′
-  rolled k p = by (fitting 2000 (cashFlows n one table)) refl
+  rolled k p = by (fittedIn n one table 2000) refl
     where
-      by : (o : Outcome (List CashFlow)) → fitting 2000 (cashFlows n one table) ≡ o → Rolled n table k days′ amounts′
+      by : (o : Outcome (List CashFlow)) → fittedIn n one table 2000 ≡ o → Rolled n table k days′ amounts′
       by (given l) e =
           let f : fitted n one table days amounts ≡ given l = in-2000 ∙ e in
           let g = fitting-given 2000 (cashFlows n one table) l e in
@@ -108,9 +104,9 @@ module _ (n : Note) (table days days′ : List ℕ) (amounts amounts′ : List F
       by (refused m) e = absurd (given-not-refused (p .answer ∙ ap counted (in-2000 ∙ e)))
 
   pub unrolled : (k : ℕ) → RolloutPromise n one table days amounts (flows-answer.Refused k) days′ amounts′ → noteLines (withDays n table) ≡ refused k
-  unrolled k p = by (fitting 2000 (cashFlows n one table)) refl
+  unrolled k p = by (fittedIn n one table 2000) refl
     where
-      by : (o : Outcome (List CashFlow)) → fitting 2000 (cashFlows n one table) ≡ o → noteLines (withDays n table) ≡ refused k
+      by : (o : Outcome (List CashFlow)) → fittedIn n one table 2000 ≡ o → noteLines (withDays n table) ≡ refused k
       by (given l) e = absurd (given-not-refused (sym (p .answer ∙ ap counted (in-2000 ∙ e))))
       by (refused m) e = lines-refused n table m e ∙ ap refused (refused-injective (sym (p .answer ∙ ap counted (in-2000 ∙ e))))
 

@@ -7,8 +7,7 @@ use lib.Ieee.{Float, binary64, ofInt}
 use Rattle.paper.specs.Outcome.{Outcome, andThen}
 use Rattle.text.specs.Writing.{lengthOutcome, Written}
 use Rattle.text.specs.declared.LengthAnswer.{LengthAnswer}
-use Rattle.room.specs.Room.{fitting}
-use Rattle.rollout.specs.Rollout.{cashFlows}
+use Rattle.rollout.specs.Rollout.{fittedIn}
 use Rattle.note_lines.specs.Lines.{linesOf, answerText}
 use Rattle.packed.specs.Tables.{Unpacked, unpacked}
 
@@ -17,7 +16,7 @@ abbrev pub one : Float
 one = ofInt binary64 (pos 1)
 
 unfoldable pub noteLines : Unpacked → Outcome (List ℕ)
-noteLines p = andThen (fitting 2000 (cashFlows (p .note) one (p .days))) linesOf
+noteLines p = andThen (fittedIn (p .note) one (p .days) 2000) linesOf
 
 -- the program reads both from standard input
 unfoldable pub listing : List ℕ → List ℕ

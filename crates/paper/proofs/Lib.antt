@@ -1,4 +1,5 @@
 pub mod Lists
 pub mod Numbers
 pub mod Outcomes
+pub mod Tallies
 pub mod Walks

@@ -1,22 +1,13 @@
--- Numbers as the code writes them: 0.0 and 1.0 by their patterns, and the test for a finite one. Assumes nothing.
+-- The test for a finite number, as the code writes it. Assumes nothing.
 use Prim.Native.Nat.{ℕ, zero, suc, _+_, _-_, _*_, _^_}
 use mathlib.Core.Path.{_≡_, refl, ap, _∙_}
 use mathlib.Core.Bool.{Bool, true, false, not, cond}
 use lib.Dec.{ltb}
 use lib.IntN.{ℤ, pos}
-use lib.Ieee.{Float, nan, inf, fin, Format, binary64, prec, emax, low, up, down, odd, units, round, neg, sum, add, sub, eq, ofInt, ofBits}
+use lib.Ieee.{Float, nan, inf, fin, Format, binary64, prec, emax, low, up, down, odd, units, round, neg, sum, add, sub, eq}
 use lib.Ieee.Fits.{round-is}
 use lib.Ieee.Scale.{finite}
 use borrow.Author.Tests.{eq-eqb}
-use Rattle.day_fraction.specs.Fractions.{whole}
-
-pub lit0 : ofBits binary64 0 ≡ whole (pos 0)
-unfolding ofBits ofInt
-lit0 = refl
-
-pub lit1 : ofBits binary64 0x3ff0_0000_0000_0000 ≡ whole (pos 1)
-unfolding ofBits ofInt
-lit1 = refl
 
 -- ---- what is rounded is a number, and equals itself
 

@@ -1,10 +1,9 @@
 -- No second outcome satisfies the entry point's promise: neither another answer, nor other lists; and a refusal's number is never 0.
 -- Assumes nothing.
-use Prim.Native.Nat.{ℕ, zero, suc, min}
+use Prim.Native.Nat.{ℕ, zero, suc}
 use mathlib.Core.Path.{_≡_, sym, _∙_}
 use mathlib.Core.List.{List, []}
 use native.Mathlib.Omega.{arith}
-use lib.ListN.{length}
 use lib.Ieee.{Float}
 use Rattle.paper.specs.Outcome.{Outcome, given, Numbered}
 use Rattle.paper.proofs.Outcomes.{then-numbered, elim-numbered}
@@ -25,7 +24,7 @@ use Rattle.bond.specs.Notes.{isPosition, noteChecks, firstCouponEnd, nominalOf,
 use Rattle.bond.specs.declared.Note.{Note}
 use Rattle.bond.proofs.OneOutcome.{checks-numbered, first-end-numbered}
 use Rattle.note_flows.specs.NoteFlows.{paid, couponFlow, followed, flowsAfter, noteFlows}
-use Rattle.rollout.specs.Rollout.{cashFlows, fitted, RolloutPromise}
+use Rattle.rollout.specs.Rollout.{cashFlows, fittedIn, RolloutPromise}
 
 -- the answer, the days and the amounts
 pub one-rollout : (n : Note) (position : Float) (table days : List ℕ) (amounts : List Float) (r s : FlowsAnswer) (d e : List ℕ) (a b : List Float) → RolloutPromise n position table days amounts r d a → RolloutPromise n position table days amounts s e b → (r ≡ s) × (d ≡ e) × (a ≡ b)
@@ -67,5 +66,5 @@ unfolding cashFlows
 cash-flows-numbered n position table =
     then-numbered (noteChecks (isPosition position) (isTable table) n) (λ m. noteFlows m position table) (checks-numbered (isPosition position) (isTable table) n) (λ m. flows-numbered m position table)
 
-pub rollout-numbered : (n : Note) (position : Float) (table days : List ℕ) (amounts : List Float) → Numbered (fitted n position table days amounts)
-rollout-numbered n position table days amounts = fitting-numbered (min (length days) (length amounts)) (cashFlows n position table) (cash-flows-numbered n position table)
+pub rollout-numbered : (n : Note) (position : Float) (table : List ℕ) (places : ℕ) → Numbered (fittedIn n position table places)
+rollout-numbered n position table places = fitting-numbered places (cashFlows n position table) (cash-flows-numbered n position table)

@@ -14,9 +14,13 @@ use Rattle.bond.specs.declared.Note.{Note}
 unfoldable pub use Rattle.note_flows.specs.NoteFlows.{cashFlows}
 use Rattle.note_flows.specs.NoteFlows.{dayOf, amountOf}
 
--- last 16: fewer places than flows, in either list
+-- the note's flows, and last 16: fewer places than flows
+abbrev pub fittedIn : Note → Float → List ℕ → ℕ → Outcome (List CashFlow)
+fittedIn n position table places = fitting places (cashFlows n position table)
+
+-- where days and amounts stand in two lists, in the places of the shorter one
 abbrev pub fitted : Note → Float → List ℕ → List ℕ → List Float → Outcome (List CashFlow)
-fitted n position table days amounts = fitting (min (length days) (length amounts)) (cashFlows n position table)
+fitted n position table days amounts = fittedIn n position table (min (length days) (length amounts))
 
 -- what the entry point promises of its answer r and of both lists afterwards
 pub record RolloutPromise (n : Note) (position : Float) (table days : List ℕ) (amounts : List Float) (r : FlowsAnswer) (days′ : List ℕ) (amounts′ : List Float) : Type 0 where

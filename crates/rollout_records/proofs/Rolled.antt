@@ -11,9 +11,9 @@ use denote.Laws.{Is}
 use denote.Struct.Laws as LL
 use Rattle.paper.specs.Outcome.{Outcome, given, refused, value}
 use Rattle.paper.proofs.Outcomes.{then-given}
-use Rattle.room.specs.Room.{fitting, counted, roomAfter}
+use Rattle.room.specs.Room.{counted}
 use Rattle.room.proofs.Fitting.{fitting-given}
-use Rattle.room.proofs.Filling.{Filled, filled-none, filled-more, filled-all}
+use Rattle.room.proofs.Filling.{Filled, filled-none, filled-more, filled-all, count-is, room-is}
 use Rattle.cash_flow.specs.Flows.{flowsOutcome}
 use Rattle.cash_flow.specs.declared.CashFlow.{CashFlow}
 use Rattle.cash_flow.specs.declared.FlowsAnswer.{FlowsAnswer}
@@ -22,13 +22,12 @@ use Rattle.bond.specs.Notes.{isPosition, noteChecks}
 use Rattle.bond.specs.declared.Note.{Note}
 use Rattle.bond.proofs.Ends.{passed}
 use Rattle.note_flows.specs.NoteFlows.{noteFlows}
-use Rattle.rollout.specs.Rollout.{cashFlows}
+use Rattle.rollout.specs.Rollout.{cashFlows, fittedIn}
 use Rattle.coupon_dues.specs.Dues.{Dated}
 use Rattle.note_flows.specs.Turns.{Judged, flowsDue}
 use Rattle.coupon_dues.specs.declared.Due.{Due}
 use Rattle.coupon_dues.specs.declared.Due.the-variants.{First}
-use Rattle.note_flows.proofs.Collecting.{flowsOf}
-use Rattle.rollout_records.specs.Records.{recordsFitted, RecordsPromise}
+use Rattle.rollout_records.specs.Records.{RecordsPromise}
 use Rattle.kept_flows.specs.Steps.{KeptAll, Coming, Came}
 use Rattle.kept_flows.specs.declared.Paid.{Paid}
 use Rattle.kept_flows.proofs.Paid as P
@@ -38,7 +37,7 @@ use Rattle.kept_flows.proofs.Paid.Laws as P′
 
 -- the flows that are to be written: none where all is refused
 abbrev pub toWrite : Note → Float → List ℕ → List CashFlow → List CashFlow
-toWrite n position table old = flowsOf (recordsFitted n position table (length old))
+toWrite n position table old = value [] (fittedIn n position table (length old))
 
 -- k flows are written, the last paid is `paid`, and the others are to come
 pub record Rolling (n : Note) (position : Float) (table : List ℕ) (old : List CashFlow) : Type 0 where
@@ -52,8 +51,8 @@ pub record Rolling (n : Note) (position : Float) (table : List ℕ) (old : List 
 
 module _ (n : Note) (position : Float) (table : List ℕ) (old : List CashFlow) where
   -- what is to be written are all flows of what was judged
-  all-of : (o : Outcome (List CashFlow)) → recordsFitted n position table (length old) ≡ o → 0 < length (flowsOf o) → Judged n position table × (noteFlows n position table ≡ given (flowsOf o)) × (cashFlows n position table ≡ given (flowsOf o))
-  unfolding recordsFitted cashFlows
+  all-of : (o : Outcome (List CashFlow)) → fittedIn n position table (length old) ≡ o → 0 < length (value [] o) → Judged n position table × (noteFlows n position table ≡ given (value [] o)) × (cashFlows n position table ≡ given (value [] o))
+  unfolding cashFlows
   all-of (given l) e h =
       let f = fitting-given (length old) (cashFlows n position table) l e in
       let g = then-given (noteChecks (isPosition position) (isTable table) n) (λ m. noteFlows m position table) l (f .0) in
@@ -61,16 +60,15 @@ module _ (n : Note) (position : Float) (table : List ℕ) (old : List CashFlow) 
       (g .1 ∙ ap given (sym (p .itself)), ap (λ (m : Note). noteFlows m position table) (p .itself) ∙ g .2, f .0)
   all-of (refused k) e h = absurd (omega arith)
 
-  fit-room : (o : Outcome (List CashFlow)) → recordsFitted n position table (length old) ≡ o → length (flowsOf o) ≤ length old
-  unfolding recordsFitted
+  fit-room : (o : Outcome (List CashFlow)) → fittedIn n position table (length old) ≡ o → length (value [] o) ≤ length old
   fit-room (given l) e = fitting-given (length old) (cashFlows n position table) l e .1
   fit-room (refused k) e = omega arith
 
   pub enough-room : length (toWrite n position table old) ≤ length old
-  enough-room = fit-room (recordsFitted n position table (length old)) refl
+  enough-room = fit-room (fittedIn n position table (length old)) refl
 
   all-given : 0 < length (toWrite n position table old) → Judged n position table × (noteFlows n position table ≡ given (toWrite n position table old)) × (cashFlows n position table ≡ given (toWrite n position table old))
-  all-given h = all-of (recordsFitted n position table (length old)) refl h
+  all-given h = all-of (fittedIn n position table (length old)) refl h
 
   pub first-due : (d : Due) → d ≡ First → 0 < length (toWrite n position table old) → Dated d × (flowsDue n position table d ≡ given (toWrite n position table old))
   first-due d e h = subst (λ (x : Due). Dated x × (flowsDue n position table x ≡ given (toWrite n position table old))) (sym e) (omega arith, all-given h .1)
@@ -118,31 +116,20 @@ module _ (n : Note) (position : Float) (table : List ℕ) (old : List CashFlow) 
         next = λ f _. rolling-next f;
       }
 
-  written-is : (o : Outcome (List CashFlow)) → value 0 (counted o) ≡ length (flowsOf o)
-  written-is (given l) = refl
-  written-is (refused k) = refl
-
-  after-is : (o : Outcome (List CashFlow)) → flowsOf o ++ drop (length (flowsOf o)) old ≡ roomAfter (λ x. x) o old
-  after-is (given l) = ap (λ (m : List CashFlow). m ++ drop (length l) old) (sym (map-id l))
-  after-is (refused k) = refl
-
-  module _ (r : FlowsAnswer) (answers : flowsOutcome r ≡ counted (fitting (length old) (cashFlows n position table))) where
-    promised : flowsOutcome r ≡ counted (recordsFitted n position table (length old))
-    unfolding recordsFitted
-    promised = answers
-
+  module _ (r : FlowsAnswer) (answers : flowsOutcome r ≡ counted (fittedIn n position table (length old))) where
     -- as many as the answer says
     pub so-many : (m : ℕ) → m ≡ value 0 (flowsOutcome r) → m ≡ length (toWrite n position table old)
-    so-many m e = e ∙ ap (value 0) promised ∙ written-is (recordsFitted n position table (length old))
+    so-many m e = e ∙ ap (value 0) answers ∙ count-is (fittedIn n position table (length old))
 
     pub rolled : (t : Rolling n position table old) → length (toWrite n position table old) ≤ t .k → RecordsPromise n position table old r (t .out)
     rolled t h =
         let all : t .k ≡ length (toWrite n position table old) = omega (arith, t .within) in
         let none : drop (t .k) (toWrite n position table old) ≡ [] = ap (λ (m : ℕ). drop m (toWrite n position table old)) all ∙ drop-length (toWrite n position table old) in
         record {
-          answer = promised;
+          answer = answers;
           contents =
               filled-all (toWrite n position table old) old (t .k) (t .out) (subst (λ (m : List CashFlow). Filled (toWrite n position table old) old (t .k) m (t .out)) none (t .filled))
               ∙ ap (λ (m : ℕ). toWrite n position table old ++ drop m old) all
-              ∙ after-is (recordsFitted n position table (length old));
+              ∙ ap (λ (l : List CashFlow). l ++ drop (length (toWrite n position table old)) old) (sym (map-id (toWrite n position table old)))
+              ∙ room-is (λ x. x) (fittedIn n position table (length old)) old;
         }

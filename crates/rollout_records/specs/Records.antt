@@ -5,19 +5,14 @@ use mathlib.Core.Path.{_≡_}
 use mathlib.Core.List.{List}
 use lib.ListN.{length}
 use lib.Ieee.{Float}
-use Rattle.paper.specs.Outcome.{Outcome}
-use Rattle.room.specs.Room.{fitting, counted, roomAfter}
+use Rattle.room.specs.Room.{counted, roomAfter}
 use Rattle.cash_flow.specs.Flows.{flowsOutcome}
 use Rattle.cash_flow.specs.declared.CashFlow.{CashFlow}
 use Rattle.cash_flow.specs.declared.FlowsAnswer.{FlowsAnswer}
 use Rattle.bond.specs.declared.Note.{Note}
-use Rattle.rollout.specs.Rollout.{cashFlows}
-
--- the note's flows, and last 16: fewer places than flows
-unfoldable pub recordsFitted : Note → Float → List ℕ → ℕ → Outcome (List CashFlow)
-recordsFitted n position table places = fitting places (cashFlows n position table)
+use Rattle.rollout.specs.Rollout.{fittedIn}
 
 -- how many were written; and the room holds the flows, and then what it held
 pub record RecordsPromise (n : Note) (position : Float) (table : List ℕ) (room : List CashFlow) (r : FlowsAnswer) (room′ : List CashFlow) : Type 0 where
-  pub answer : flowsOutcome r ≡ counted (recordsFitted n position table (length room))
-  pub contents : room′ ≡ roomAfter (λ x. x) (recordsFitted n position table (length room)) room
+  pub answer : flowsOutcome r ≡ counted (fittedIn n position table (length room))
+  pub contents : room′ ≡ roomAfter (λ x. x) (fittedIn n position table (length room)) room

@@ -7,7 +7,7 @@ use native.Mathlib.Omega.{arith}
 use native.Mathlib.Numerals.{add-one}
 use lib.ListN.{length, take, drop, set, getD, length-set, length-map, take-append-drop}
 use lib.Seq.{take-suc-set, drop-set-lt, append-snoc, length-take-le, take-at}
-use Rattle.paper.specs.Outcome.{Outcome, given, refused}
+use Rattle.paper.specs.Outcome.{Outcome, given, refused, value}
 use Rattle.paper.proofs.Lists.{head-at, tails-agree}
 use Rattle.paper.proofs.Outcomes.{given-injective, given-not-refused}
 use Rattle.room.specs.Room.{counted, roomAfter}
@@ -41,7 +41,20 @@ module _ {A : Type 0} (whole old : List A) where
   pub filled-part : (k : ℕ) (left new : List A) → k ≤ length new → Filled whole old k left new → new ≡ take k whole ++ drop k old
   filled-part k left new h w = sym (take-append-drop k new) ∙ ap₂ _++_ (sym (take-at (take k new) left k (length-take-le k new h)) ∙ ap (take k) (w .front)) (w .back)
 
+-- what was written in front of a list is what stands there
+pub front-taken : {A B : Type 0} (part : A → B) (l : List A) (rest : List B) → take (length l) (map part l ++ rest) ≡ map part l
+front-taken part l rest = take-at (map part l) rest (length l) (length-map l part)
+
+-- the count and the room afterwards, by what was given
+pub count-is : {A : Type 0} (o : Outcome (List A)) → value 0 (counted o) ≡ length (value [] o)
+count-is (given l) = refl
+count-is (refused n) = refl
+
+pub room-is : {A B : Type 0} (part : A → B) (o : Outcome (List A)) (old : List B) → map part (value [] o) ++ drop (length (value [] o)) old ≡ roomAfter part o old
+room-is part (given l) old = refl
+room-is part (refused n) old = refl
+
 -- what stands in front of one room, copied in front of another
 pub room-copied : {A B : Type 0} (part : A → B) (o : Outcome (List A)) (m : ℕ) (kept old : List B) → counted o ≡ given m → take m (roomAfter part o kept) ++ drop m old ≡ roomAfter part o old
-room-copied part (given l) m kept old e = subst (λ (j : ℕ). take j (map part l ++ drop (length l) kept) ++ drop j old ≡ map part l ++ drop (length l) old) (given-injective e) (ap (λ (r : List _). r ++ drop (length l) old) (take-at (map part l) (drop (length l) kept) (length l) (length-map l part)))
+room-copied part (given l) m kept old e = subst (λ (j : ℕ). take j (map part l ++ drop (length l) kept) ++ drop j old ≡ map part l ++ drop (length l) old) (given-injective e) (ap (λ (r : List _). r ++ drop (length l) old) (front-taken part l (drop (length l) kept)))
 room-copied part (refused n) m kept old e = absurd (given-not-refused (sym e))

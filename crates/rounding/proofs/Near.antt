@@ -13,7 +13,7 @@ use lib.Pow.{pow-add, pow-pos}
 use lib.Ieee.{Float, binary64, prec, emax, low, round, neg, add, sub, ofInt}
 use lib.Ieee.Exact.{HasValue}
 use Rattle.rounding.proofs.Algebra.{ring, Apart, plusOf, minusOf}
-use Rattle.rounding.proofs.Integers.{plus, minus}
+use Rattle.rounding.proofs.Integers.{plus, minus, Diff}
 use Rattle.rounding.proofs.Operations.{Rounds, add-near, whole-value, neg-value, sub-is-add}
 
 -- 1 is `unit` of the format's smallest value, and 2 ^ -100 is `fine` of it. Both stay shut, so that no proof computes with them.
@@ -129,6 +129,11 @@ near-same {x} {a} {b} {d} {k} {e} X A B D P q =
     within a b A B q h =
         let i : d * A ≤ d * (B + D * k) = simp ring (omega (arith, simp ring at q, simp ring at (mul-le-mul-left D h))) in
         le-of-mul-le-mul-left i (X .den)
+
+-- a value near (a - b) / d is near N / d, where N is a - b
+pub near-signed : {x : Float} {a b d k e : ℕ} {N : ℤ} → Near x a b d k e → Diff N a b → (d′ : ℕ) → d ≡ d′ → Near x (plus N) (minus N) d′ k e
+near-signed {x} {a} {b} {d} {k} {e} {N} X D d′ same =
+    subst (λ (z : ℕ). Near x (plus N) (minus N) z k e) same (near-same X (plus N) (minus N) d (X .den) (omega (arith, ap (λ (n : ℕ). n * d) (D .is))))
 
 -- a larger bound and a larger error
 pub near-weaken : {x : Float} {a b d k e : ℕ} → Near x a b d k e → (k' e' : ℕ) → k ≤ k' → e ≤ e' → Near x a b d k' e'

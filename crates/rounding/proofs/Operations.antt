@@ -39,6 +39,10 @@ by-value P s X u k nan v = absurd v
 by-value P s X u k (inf r) v = absurd v
 by-value P s X u k (fin r m e) v = subst (λ (t : Bool). P (fin t m e)) (sym (v .0)) (k m e (v .1))
 
+-- a value above 0 has some of them
+pub some-units : (b u Y d : ℕ) → 0 < Y → 0 < d → b * u ≡ Y * d → 0 < b
+some-units b u Y d P D q = first-pos b u (subst (λ (z : ℕ). 0 < z) (sym q) (mul-pos P D))
+
 module _ (f : Format) (u : ℕ) (is : 2 ^ low f ≡ u) where
   -- `round` at num / den, which is Z / q units, below 2 ^ j of them
   settled : (s : Bool) (num den Z q p n j : ℕ) → 0 < den → num * u * q ≡ Z * den → plusOf s Z + n ≡ p + minusOf s Z → Z < 2 ^ j * q → j < low f + suc (emax f)
@@ -140,8 +144,8 @@ module _ (f : Format) (u : ℕ) (is : 2 ^ low f ≡ u) where
   div-near x y s X Y j v w P h top =
       by-value (λ (x : Float). Goal (div f x y)) s X u
       (λ m e p. by-value (λ (y : Float). Goal (div f (fin s m e) y)) false Y u
-      (λ n d q. nonzero (cond (eqb m 0) nan (inf (unlike s false))) (round f (unlike s false) (m * up e * down d) (n * up d * down e)) n (first-pos n (up d) (some (n * up d) (down d) (down-pos d) q))
-      (settled (unlike s false) (m * up e * down d) (n * up d * down e) (X * u) Y (plusOf s X * u) (minusOf s X * u) j (mul-pos (some (n * up d) (down d) (down-pos d) q) (down-pos e))
+      (λ n d q. nonzero (cond (eqb m 0) nan (inf (unlike s false))) (round f (unlike s false) (m * up e * down d) (n * up d * down e)) n (first-pos n (up d) (some-units (n * up d) u Y (down d) P (down-pos d) q))
+      (settled (unlike s false) (m * up e * down d) (n * up d * down e) (X * u) Y (plusOf s X * u) (minusOf s X * u) j (mul-pos (some-units (n * up d) u Y (down d) P (down-pos d) q) (down-pos e))
       (over (m * up e) (n * up d) (down e) (down d) p q) (signs s) h top)) y w) x v
     where
       Goal : Float → Type 0
@@ -153,9 +157,6 @@ module _ (f : Format) (u : ℕ) (is : 2 ^ low f ≡ u) where
       signs : (s : Bool) → plusOf (unlike s false) (X * u) + minusOf s X * u ≡ plusOf s X * u + minusOf (unlike s false) (X * u)
       signs false = omega arith
       signs true = omega arith
-
-      some : (b d : ℕ) → 0 < d → b * u ≡ Y * d → 0 < b
-      some b d D q = first-pos b u (subst (λ (z : ℕ). 0 < z) (sym q) (mul-pos P D))
 
       nonzero : (z r : Float) (n : ℕ) → 0 < n → Goal r → Goal (cond (eqb n 0) z r)
       nonzero z r n N g = go (eqb n 0) (eqb→eq n 0)

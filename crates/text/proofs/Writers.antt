@@ -3,16 +3,14 @@
 use Prim.Native.Nat.{ℕ, _+_, _-_, _≤_, _<_, max}
 use mathlib.Core.Path.{_≡_, refl, sym, ap, _∙_}
 use mathlib.Core.List.{List, _++_}
-use mathlib.Core.Logic.{_⊎_, inl, inr}
 use mathlib.Core.Bool.{Bool}
 use native.Mathlib.Omega.{arith}
 use lib.ListN.{length, take, replicate, length-append, length-replicate}
 use lib.IntN.{ℤ, natAbs}
 use lib.Dec.{leb}
-use borrow.Author.Tests.{le-leb, lt-leb}
-use Rattle.paper.specs.Outcome.{given, refused, Numbered}
-use Rattle.paper.proofs.Numbers.{lt-or-le}
-use Rattle.paper.proofs.Outcomes.{given-injective, given-not-refused, unless-numbered}
+use borrow.Author.Tests.{le-leb, lt-leb, leb-true}
+use Rattle.paper.specs.Outcome.{given, refused, Numbered, pick}
+use Rattle.paper.proofs.Outcomes.{given-injective, unless-given, unless-numbered}
 use Rattle.text.specs.Writing.{digits, places, decimalText, paddedText, isNegative, signText, signedText, rightAligned, put, Wrote, writtenLength, writtenBytes, Written}
 use Rattle.text_lengths.proofs.Digits.{places-some, length-decimal, length-padded}
 use Rattle.text_lengths.proofs.Signs.{length-signed}
@@ -30,17 +28,18 @@ pub written-numbered : (d xs : List ℕ) → Numbered (writtenLength d xs)
 unfolding writtenLength
 written-numbered d xs = unless-numbered (leb (length xs) (length d)) 16 (given (length xs)) (omega arith) (omega arith)
 
--- what was written can be read at the start of the bytes
+-- where a length is answered there was room for the text, and all of it was written
+pub written-given : (d e xs : List ℕ) (k : ℕ) → Written d e xs (given k) → (k ≡ length xs) × (length xs ≤ length d) × (e ≡ put d 0 xs)
+unfolding writtenLength writtenBytes
+written-given d e xs k w =
+    let a = unless-given (leb (length xs) (length d)) 16 (given (length xs)) k (sym (w .0)) in
+    (sym (given-injective (a .1)), leb-true (length xs) (length d) (a .0), w .1 ∙ ap (λ (b : Bool). pick b (put d 0 xs) d) (a .0))
+
+-- so that it can be read at the start of the bytes
 pub written-text : (d e xs : List ℕ) (k : ℕ) → Written d e xs (given k) → take k e ≡ xs
-written-text d e xs k w = go (lt-or-le (length d) (length xs))
-  where
-    go : (length d < length xs) ⊎ (length xs ≤ length d) → take k e ≡ xs
-    go (inr h) =
-        let p = written-fits d (put d 0 xs) xs (length xs) (refl, omega arith) h in
-        let k-is : k ≡ length xs = given-injective (w .0 ∙ sym (p .0)) in
-        let e-is : e ≡ put d 0 xs = w .1 ∙ sym (p .1) in
-        rw (k-is, e-is) (put-text d 0 xs (omega arith))
-    go (inl h) = absurd (given-not-refused (w .0 ∙ sym (written-refused d xs h .0)))
+written-text d e xs k w =
+    let g = written-given d e xs k w in
+    rw (g .0, g .2) (put-text d 0 xs (omega (arith, g .1)))
 
 -- ---- the same text by another name
 

@@ -15,7 +15,7 @@ use Rattle.cash_amount.specs.Amounts.{amountOutcome}
 use Rattle.rates.specs.Rates.{streamFrom, discountedStream}
 use Rattle.listed_rates.specs.Listed.{flowAt, flowsFrom, flowsOf}
 use Rattle.rates.proofs.Streams.{stream-on, stream-ends, stream-none}
-use Rattle.rate_factors.proofs.Numbers.{lit0}
+use Rattle.day_fraction.proofs.Written.{lit0}
 use Rattle.listed_rates.proofs.discount_listed_flows.Statement.{statement}
 use Rattle.listed_rates.proofs.discount_listed_flows.Tie as tie
 

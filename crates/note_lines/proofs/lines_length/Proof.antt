@@ -2,21 +2,22 @@
 -- Assumes nothing.
 use Prim.Native.Nat.{_-_, _*_, _≤_}
 use mathlib.Core.Path.{_≡_, refl, sym, ap, subst, _∙_}
-use mathlib.Core.List.{List}
+use mathlib.Core.List.{List, []}
 use native.Mathlib.Omega.{arith}
 use borrow.Author.Needs.{needs}
 use denote.Ref.{now}
 use lib.ListN.{length, drop}
+use Rattle.paper.proofs.Tallies.{tally, tally-none, tally-end}
 use Rattle.text.specs.Writing.{lengthOutcome}
 use Rattle.note_lines.specs.Lines.{linesOf}
 use Rattle.note_lines.specs.Steps.{flowsIn, AtMost}
 use Rattle.cash_flow.specs.declared.CashFlow.{CashFlow}
-use Rattle.note_lines.proofs.Lines.{flows-next, flows-none, measured, measured-all, measured-none, measured-more, measured-refused}
+use Rattle.note_lines.proofs.Lines.{flows-next, flows-none, lines-none, tally-line, tally-refused}
 use Rattle.note_lines.proofs.lines_length.Statement.{statement}
 use Rattle.note_lines.proofs.lines_length.Tie as tie
 
 abbrev Inv-loop : tie.InvT-loop
-Inv-loop currency days amounts total₀ i₀ total i = (i ≤ length days) × (total ≤ 331 * i) × (measured total (linesOf (flowsIn currency (drop i days) (drop i amounts))) ≡ measured 0 (linesOf (flowsIn currency days amounts)))
+Inv-loop currency days amounts total₀ i₀ total i = (i ≤ length days) × (total ≤ 331 * i) × (tally total (linesOf (flowsIn currency (drop i days) (drop i amounts))) ≡ tally 0 (linesOf (flowsIn currency days amounts)))
 
 abbrev μ-loop : tie.MeasureT-loop
 μ-loop currency days amounts total₀ i₀ total i = length days - i
@@ -60,7 +61,7 @@ loop-again c =
     let l = c .before .before .before .before .before .before .before .loop in
     let a = c .before .before .before .before .before .before .before .before .before .before .args in
     let next = flows-next (a .currency) (now (a .days)) (now (a .amounts)) (l .i) (omega arith) (omega arith) in
-    (omega arith, omega (arith, short c), measured-more (l .total) (c .before .k .given .0 .0) _ _ _ (sym (ap (λ (fs : List CashFlow). measured (l .total) (linesOf fs)) next) ∙ l .inv .2) (ap lengthOutcome (sym (c .before .k .given .1)) ∙ c .before .before .before .line-length .ensures .0))
+    (omega arith, omega (arith, short c), tally-line (l .total) (c .before .k .given .0 .0) _ _ _ (sym (ap (λ (fs : List CashFlow). tally (l .total) (linesOf fs)) next) ∙ l .inv .2) (ap lengthOutcome (sym (c .before .k .given .1)) ∙ c .before .before .before .line-length .ensures .0))
 
 enum-known-n : tie.Need-enum-known-n Inv-loop μ-loop
 enum-known-n c = search needs
@@ -70,14 +71,14 @@ returns c =
     let l = c .before .before .before .before .before .before .before .loop in
     let a = c .before .before .before .before .before .before .before .before .before .before .args in
     let next = flows-next (a .currency) (now (a .days)) (now (a .amounts)) (l .i) (omega arith) (omega arith) in
-    (measured-refused (l .total) (c .before .n .given .0 .0) _ _ _ (sym (ap (λ (fs : List CashFlow). measured (l .total) (linesOf fs)) next) ∙ l .inv .2) (ap lengthOutcome (sym (c .before .n .given .1)) ∙ c .before .before .before .line-length .ensures .0) ∙ measured-all (linesOf (flowsIn (a .currency) (now (a .days)) (now (a .amounts)))), omega arith)
+    (tally-refused (l .total) (c .before .n .given .0 .0) _ _ _ (sym (ap (λ (fs : List CashFlow). tally (l .total) (linesOf fs)) next) ∙ l .inv .2) (ap lengthOutcome (sym (c .before .n .given .1)) ∙ c .before .before .before .line-length .ensures .0) ∙ tally-none (linesOf (flowsIn (a .currency) (now (a .days)) (now (a .amounts)))), omega arith)
 
 returns-2 : tie.Need-returns-2 Inv-loop μ-loop
 returns-2 c =
     let l = c .before .loop in
     let a = c .before .before .before .before .args in
     let none = flows-none (a .currency) (now (a .days)) (now (a .amounts)) (l .i) (omega arith) in
-    (sym (measured-none (l .total)) ∙ sym (ap (λ (fs : List CashFlow). measured (l .total) (linesOf fs)) none) ∙ l .inv .2 ∙ measured-all (linesOf (flowsIn (a .currency) (now (a .days)) (now (a .amounts)))), omega arith)
+    (sym (tally-end (l .total) (linesOf []) lines-none) ∙ sym (ap (λ (fs : List CashFlow). tally (l .total) (linesOf fs)) none) ∙ l .inv .2 ∙ tally-none (linesOf (flowsIn (a .currency) (now (a .days)) (now (a .amounts)))), omega arith)
 
 pub lines-length-spec : {M : Type 1} → statement M
 lines-length-spec =

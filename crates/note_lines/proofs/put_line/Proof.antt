@@ -26,7 +26,7 @@ fits c =
 put-cash-flow-at-requires : tie.Need-put-cash-flow-at-requires
 put-cash-flow-at-requires c κs =
     let f = fits (c .before) in
-    ((f .seen-so .amount, f .seen-so .date), omega (arith, f .room))
+    (f .shown, omega (arith, f .room))
 
 slice-write-out : tie.Need-slice-write-out
 slice-write-out c =

@@ -6,7 +6,8 @@ use native.Mathlib.Omega.{arith}
 use denote.Ref.{now}
 use lib.Seq.{length-take-le}
 use Rattle.note_lines.proofs.Lines.{written-is, refusal-written}
-use Rattle.note_listing.proofs.Notes.{one-literal, Rolled, rolled-out, not-rolled-out}
+use Rattle.day_fraction.proofs.Written.{lit1}
+use Rattle.note_listing.proofs.Notes.{Rolled, rolled-out, not-rolled-out}
 use Rattle.note_lines.specs.Lines.{answerText}
 use borrow.Author.Needs.{needs}
 use Rattle.note_listing.proofs.list_flows.Statement.{statement}
@@ -28,7 +29,7 @@ enum-known-n c = search needs
 rolled-at : (c : tie.After-n) → Rolled (c .before .before .before .before .before .before .before .before .before .args .note) (now (c .before .before .before .before .before .before .before .before .before .args .table)) (c .n .given .0 .0) (c .before .before .before .before .rollout-flows .last .1 .1 .1 .0) (c .before .before .before .before .rollout-flows .last .1 .1 .1 .1 .0)
 rolled-at c =
     let s = c .before .before .before .before .before .before .before .before .before in
-    rolled-out (s .args .note) (now (s .args .table)) _ _ _ _ refl refl _ _ _ one-literal (c .n .given .1) (c .before .before .before .before .rollout-flows .ensures)
+    rolled-out (s .args .note) (now (s .args .table)) _ _ _ _ refl refl _ _ _ lit1 (c .n .given .1) (c .before .before .before .before .rollout-flows .ensures)
 
 array-share-prefix-days : tie.Need-array-share-prefix-days
 array-share-prefix-days c = rolled-at (c .before .before) .days-long
@@ -71,7 +72,7 @@ returns-2 : tie.Need-returns-2
 returns-2 c =
     let k = c .before .before .before .before .before in
     let s = k .before .before .before .before .before .before .before .before .before in
-    refusal-written _ _ _ _ _ (ap answerText (sym (not-rolled-out (s .args .note) (now (s .args .table)) _ _ _ _ refl refl _ _ _ one-literal (k .k .given .1) (k .before .before .before .before .rollout-flows .ensures)))) (c .before .before .write-refusal .ensures)
+    refusal-written _ _ _ _ _ (ap answerText (sym (not-rolled-out (s .args .note) (now (s .args .table)) _ _ _ _ refl refl _ _ _ lit1 (k .k .given .1) (k .before .before .before .before .rollout-flows .ensures)))) (c .before .before .write-refusal .ensures)
 
 pub list-flows-spec : {M : Type 1} → statement M
 list-flows-spec =

@@ -1,7 +1,7 @@
 -- `rate_factors::is_rate` meets its contract: each way is one of the two tests.
 -- Assumes nothing.
 use Rattle.rate_factors.specs.Factors.{isRate}
-use Rattle.rate_factors.proofs.Numbers.{lit0, lit1}
+use Rattle.day_fraction.proofs.Written.{lit0, lit1}
 use Rattle.rate_factors.proofs.is_rate.Statement.{statement}
 use Rattle.rate_factors.proofs.is_rate.Tie as tie
 

@@ -1,7 +1,7 @@
 -- `rate_factors::simple_factor` meets its contract: the operations, each literal by its pattern.
 -- Assumes nothing.
 use Rattle.rate_factors.specs.Factors.{factorOf}
-use Rattle.rate_factors.proofs.Numbers.{lit1}
+use Rattle.day_fraction.proofs.Written.{lit1}
 use Rattle.rate_factors.proofs.simple_factor.Statement.{statement}
 use Rattle.rate_factors.proofs.simple_factor.Tie as tie
 

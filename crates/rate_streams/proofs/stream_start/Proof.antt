@@ -6,7 +6,7 @@ use borrow.Author.Tests.{not-true, not-false}
 use borrow.Author.Needs.{needs}
 use Rattle.rate_streams.specs.Steps.{streamStart}
 use Rattle.paper.specs.Outcome.{given}
-use Rattle.rate_factors.proofs.Numbers.{lit0}
+use Rattle.day_fraction.proofs.Written.{lit0}
 use Rattle.rate_streams.proofs.stream_start.Statement.{statement}
 use Rattle.rate_streams.proofs.stream_start.Tie as tie
 

@@ -244,28 +244,28 @@ def add_to(p, t, table=None, negate=False):
 # ---- year fractions
 
 
-def thirty(start, end, european, wrap):
+def thirty(start, end, european, wrap, number):
     months = end[1] - start[1]
     if wrap:
         months %= 2**32
     s = min(start[2], 30)
     e = min(end[2], 30) if european or s == 30 else end[2]
-    yf = float(end[0] - start[0]) + float(months) / 12.0 + float(e - s) / 360.0
-    if yf == 0.0 and start != end:
+    yf = number(end[0] - start[0]) + number(months) / number(12) + number(e - s) / number(360)
+    if yf == 0 and start != end:
         refuse(9)
     return yf
 
 
 def since_new_year(t):
-    return float(serial(t) - date(t[0], 1, 1).toordinal())
+    return serial(t) - date(t[0], 1, 1).toordinal()
 
 
 def year_length(year):
     return 366 if leap(year) else 365
 
 
-def icma(start, end, roll, p):
-    freq = float(frequency(p))
+def icma(start, end, roll, p, number):
+    freq = number(frequency(p))
     if p[0] < 1:
         refuse(14)
     back = (-p[0], p[1])
@@ -276,24 +276,25 @@ def icma(start, end, roll, p):
         base = step(back, base)
     if base < start:
         length = serial(step(p, base)) - serial(base)
-        return float(serial(end) - serial(start)) / (float(length) * freq)
-    count, yf, b = 0, 0.0, base
+        return number(serial(end) - serial(start)) / (number(length) * freq)
+    count, yf, b = 0, number(0), base
     while b > start:
         b = step(back, b)
         count += b >= start
     if b < start:
         u = step(p, b)
-        yf += float(serial(u) - serial(start)) / float(serial(u) - serial(b))
+        yf += number(serial(u) - serial(start)) / number(serial(u) - serial(b))
     while base < end:
         base = step(p, base)
         count += base <= end
     if base > end:
         b = step(back, base)
-        yf += float(serial(end) - serial(b)) / float(serial(base) - serial(b))
-    return (yf + float(count)) / freq
+        yf += number(serial(end) - serial(b)) / number(serial(base) - serial(b))
+    return (yf + number(count)) / freq
 
 
-def year_fraction(rule, start, end, roll, p, wrap=False):
+def year_fraction(rule, start, end, roll, p, wrap=False, number=float):
+    """The f64, or with number=Fraction the exact value."""
     judge_date(start)
     judge_date(end)
     if rule == "icma" and roll is not None:
@@ -301,21 +302,21 @@ def year_fraction(rule, start, end, roll, p, wrap=False):
     if end < start:
         refuse(19)
     if rule == "act365":
-        return float(serial(end) - serial(start)) / 365.0
+        return number(serial(end) - serial(start)) / number(365)
     if rule == "act360":
-        return float(serial(end) - serial(start)) / 360.0
+        return number(serial(end) - serial(start)) / number(360)
     if rule == "act365l":
-        yf = float(end[0] - start[0]) + since_new_year(end) / year_length(end[0])
-        return yf - since_new_year(start) / year_length(start[0])
+        yf = number(end[0] - start[0]) + number(since_new_year(end)) / number(year_length(end[0]))
+        return yf - number(since_new_year(start)) / number(year_length(start[0]))
     if rule == "30360":
-        return thirty(start, end, False, wrap)
+        return thirty(start, end, False, wrap, number)
     if rule == "30e360":
-        return thirty(start, end, True, wrap)
+        return thirty(start, end, True, wrap, number)
     if roll is None:
         refuse(10)
     if p is None:
         refuse(11)
-    return icma(start, end, roll, p)
+    return icma(start, end, roll, p, number)
 
 
 # ---- amounts and flows: a flow is (date, currency, amount)
@@ -438,8 +439,8 @@ def first_coupon_end(n):
     return t
 
 
-def interest(nominal, n, yf):
-    return nominal * n["rate"] / 100.0 * yf
+def interest(nominal, n, yf, number=float):
+    return nominal * number(n["rate"]) / number(100) * yf
 
 
 def rollout(n, position, table, places, wrap=False):
@@ -461,17 +462,17 @@ def rollout(n, position, table, places, wrap=False):
     return flows
 
 
-def accrued(n, today, wrap=False):
+def accrued(n, today, wrap=False, number=float):
     check_note(n)
     judge_date(today)
     start = n["issue"]
     if today < start:
-        return 0.0
+        return number(0)
     end = first_coupon_end(n)
     while today > end and end < n["maturity"]:
         start, end = end, step(n["period"], end)
     if end >= n["maturity"]:
-        return 0.0
-    yf = year_fraction(n["rule"], start, end, start, n["period"], wrap)
-    amount = interest(float(n["denomination"]), n, yf)
-    return amount * (float(serial(today) - serial(start)) / float(serial(end) - serial(start)))
+        return number(0)
+    yf = year_fraction(n["rule"], start, end, start, n["period"], wrap, number)
+    amount = interest(number(n["denomination"]), n, yf, number)
+    return amount * (number(serial(today) - serial(start)) / number(serial(end) - serial(start)))

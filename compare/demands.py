@@ -62,6 +62,7 @@ def past_the_room(coupon):
 
 
 PACKED = packing.pack(NOTE, [])
+TWO_DIGITS = packing.pack(dict(NOTE, count=2, digits=10), [])
 BY_DEMAND = {
     "ADJ-5": [adjust(rule, LAST_DATE, [LAST]) for rule in ("following", "modified", "preceding", "none")],
     "PER-12": [
@@ -81,6 +82,7 @@ BY_DEMAND = {
         ) for q in after(t, flows, places)
     ],
     "SIMP-3": [simple(0.5, "act365", FEB_29, one_day()), simple(0.5, "icma", FEB_29, one_day()), simple(0.5, "icma", (2021, 1, 3), one_day())],
+    "PACK-2": [read(front + TWO_DIGITS[2:]) for front in (b"\x21\x0f", b"\x20\xaf", b"\x21\x00", b"\x01\x0f", b"\xb1\x0f")],
     "PACK-10": [read(counted(data, 5000)) for data in (PACKED, packing.pack(dict(NOTE, rate=101.0), []), packing.pack(dict(NOTE, period=(0, "M")), []), PACKED[:29] + b"\x01" + PACKED[30:])],
     "PACK-12": [q for count, digits in ((5, 417), (3, 417), (10, 0)) for q in (read(packing.pack(dict(NOTE, count=count, digits=digits), [])), written(dict(NOTE, count=count, digits=digits)))],
 }

@@ -1,5 +1,4 @@
 -- Fields and their numbers, each from the other; and bytes as bits.
--- Assumes nothing.
 use Prim.Native.Nat.{ℕ, zero, suc, _+_, _-_, _*_, _/_, _%_, _^_, _≤_, _<_}
 use mathlib.Core.Path.{_≡_, refl, sym, ap, subst, _∙_}
 use mathlib.Core.List.{List, [], _∷_, _++_, append-assoc, append-nil, map, map-append}
@@ -9,9 +8,9 @@ use lib.Arith.{digits-div, digits-mod}
 use lib.Pow.{pow-add, pow-mono}
 use lib.ListN.{length, take, drop, getD, length-append, length-drop, take-append-drop}
 use lib.Seq.{take-suc, take-add, take-at, drop-at, drop-nil, drop-drop, drop-append-add, getD-drop, length-take-le}
-use Rattle.paper.specs.Lists.{Every}
-use Rattle.paper.proofs.Lists.{every-append, every-take, every-drop}
-use Rattle.text_lengths.proofs.Numerals.{numeral, worth, Digit, length-numeral, numeral-are, numeral-split, worth-append, worth-value, worth-below, worth-numeral, numeral-worth}
+use Rattle.outcome.specs.Lists.{Every}
+use Rattle.outcome.proofs.Lists.{every-append, every-take, every-drop}
+use Rattle.number_text.proofs.length.Numerals.{numeral, worth, Digit, length-numeral, numeral-are, numeral-split, worth-append, worth-value, worth-below, worth-numeral, numeral-worth}
 use Rattle.bit_fields.specs.Bits.{Field, inBits, fieldBits, fieldsBits, continuedBits, bitsNumber, bitsOf, field, bytesNumber, bytesOf, AreBytes}
 
 -- ---- bits are numerals to the base two

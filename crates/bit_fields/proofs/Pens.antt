@@ -1,5 +1,4 @@
 -- Bits at hand go out as whole bytes; fields put one after the other stand one after the other.
--- Assumes nothing.
 use Prim.Native.Nat.{ℕ, _+_, _-_, _*_, _/_, _%_, _^_, _≤_, _<_}
 use mathlib.Core.Path.{_≡_, refl, sym, ap, _∙_}
 use mathlib.Core.List.{List, [], _∷_, _++_, append-assoc, append-nil}
@@ -10,13 +9,13 @@ use lib.Pow.{pow-add, pow-pos, pow-mono, shr-lt}
 use lib.Arith.{digits-lt, digits-div, digits-mod}
 use lib.ListN.{length, take, drop, set, length-set, take-append-drop}
 use lib.Seq.{take-suc-set, drop-set-lt, length-take-le}
-use Rattle.paper.proofs.Lists.{tails-agree, every-append}
+use Rattle.outcome.proofs.Lists.{tails-agree, every-append}
 use Rattle.bit_fields.specs.Bits.{inBits, fieldBits, bitsOf, bytesOf, AreBytes}
 use Rattle.bit_fields.specs.Pens.{Held, putSoFar, Drew}
 use Rattle.bit_fields.specs.declared.Pen.{Pen}
 use Rattle.bit_fields.proofs.Bits.{length-field, one-field, field-split, field-cut, bits-of-append, one-byte, bytes-back, length-bytes}
-use Rattle.text.specs.Writing.{put}
-use Rattle.text.proofs.Putting.{put-front}
+use Rattle.number_text.specs.write.Writing.{put}
+use Rattle.number_text.proofs.write.Putting.{put-front}
 
 -- what has gone out since the place, the count and the bits of the start
 pub record Flushed (out₀ : List ℕ) (place₀ count₀ bits₀ : ℕ) (out : List ℕ) (place count bits : ℕ) : Type 0 where

@@ -1,5 +1,4 @@
 -- Fields put one after the other: whole bytes are written, and the bits of the next one are held. For inner functions only: no entry point promises it.
--- Assumes nothing.
 use Prim.Native.Nat.{ℕ, _+_, _*_, _^_, _<_}
 use mathlib.Core.Path.{_≡_}
 use mathlib.Core.List.{List, _++_}

@@ -1,12 +1,11 @@
 -- No second answer satisfies an entry point's promise; and a refusal's number is never 0.
--- Assumes nothing.
 use Prim.Native.Nat.{ℕ}
 use mathlib.Core.Path.{_≡_, refl, sym, _∙_}
 use native.Mathlib.Omega.{arith}
 use lib.Dec.{leb}
-use Rattle.paper.specs.Outcome.{Numbered, both}
-use Rattle.paper.proofs.Outcomes.{unless-numbered, answerOf, one-answer}
-use Rattle.gregorian.specs.Gregorian.{monthLength}
+use Rattle.outcome.specs.Outcome.{Numbered, both}
+use Rattle.outcome.proofs.Outcomes.{unless-numbered, answerOf, one-answer}
+use Rattle.calendar.specs.gregorian.Gregorian.{monthLength}
 use Rattle.coupon_date.specs.Coupons.{couponOutcome, couponDate, NewPromise}
 use Rattle.coupon_date.specs.declared.CouponAnswer.{CouponAnswer}
 use Rattle.coupon_date.specs.declared.CouponAnswer.the-variants as coupon-answer

@@ -1,10 +1,9 @@
 -- Coupon dates: the check of a pair of numbers.
--- Assumes nothing.
 use Prim.Native.Nat.{ℕ}
 use mathlib.Core.Path.{_≡_}
 use lib.Dec.{leb}
-use Rattle.paper.specs.Outcome.{Outcome, given, refused, unless, both}
-use Rattle.gregorian.specs.Gregorian.{monthLength}
+use Rattle.outcome.specs.Outcome.{Outcome, given, refused, unless, both}
+use Rattle.calendar.specs.gregorian.Gregorian.{monthLength}
 use Rattle.coupon_date.specs.declared.CouponDate.{CouponDate}
 use Rattle.coupon_date.specs.declared.CouponAnswer.{CouponAnswer}
 use Rattle.coupon_date.specs.declared.CouponAnswer.the-variants as coupon-answer

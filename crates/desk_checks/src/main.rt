@@ -2,21 +2,21 @@
 ghost use mathlib.Core.Path.{_≡_};
 ghost use lib.ListN.{length};
 use bond::Note;
+use bond::NoteNumber;
 use calendar::Date;
 use calendar::DateAnswer;
 use calendar::Day;
-use cash_amount::Currency;
+use cash_flow::Currency;
 use cash_flow::FlowsAnswer;
 use coupon_date::CouponAnswer;
 use coupon_date::CouponDate;
 use day_adjust::DayAdjust;
 use day_count_conv::DayCountConv;
-use day_count_conv::Extras;
+use day_count_conv::NoteTerms;
 use day_count_conv::RollDate;
 use day_count_conv::RollPeriod;
 use day_count_conv::YearFraction;
 use libc::STDOUT_FILENO;
-use note_limits::NoteNumber;
 use time_period::PeriodAnswer;
 use time_period::TimePeriod;
 use time_period::TimePeriodUnit;
@@ -56,19 +56,19 @@ fn print_text(s: &[u8]) {
 
 fn print_date(t: Date) {
     let mut out = [0u8; 32];
-    date_text::write_date(t, &mut out);
+    flow_text::write_date(t, &mut out);
     print_text(&out);
 }
 
 fn print_period(p: TimePeriod) {
     let mut out = [0u8; 32];
-    period_text::write_period(p, &mut out);
+    term_text::write_period(p, &mut out);
     print_text(&out);
 }
 
 fn print_coupon(c: CouponDate) {
     let mut out = [0u8; 32];
-    coupon_text::write_coupon_date(c, &mut out);
+    term_text::write_coupon_date(c, &mut out);
     print_text(&out);
 }
 
@@ -230,7 +230,7 @@ fn print_row(b: u8) {
 fn ask_day(c: Tally, n: u32, want: u32) -> Tally {
     print_bytes(b"- day ");
     print_number(n as u64);
-    told_date(c, serial_days::date_of(Day(n)), want)
+    told_date(c, calendar::date_of(Day(n)), want)
 }
 
 // A period added, or with '-' subtracted.
@@ -243,16 +243,16 @@ fn ask_step(c: Tally, row: u8, from: u32, sign: u8, num: i32, unit: u8, want: u3
     print_byte(sign);
     print_period(p);
     if sign == b'-' {
-        return told_date(c, period_steps::sub_from(p, t), want);
+        return told_date(c, time_period::sub_from(p, t), want);
     }
-    told_date(c, period_steps::add_to(p, t), want)
+    told_date(c, time_period::add_to(p, t), want)
 }
 
 // dd.mm text.
 fn ask_coupon(c: Tally, s: &[u8], want: u32) -> Tally {
     print_bytes(b"- coupon ");
     print_bytes(s);
-    told_coupon(c, coupon_text::read_coupon_date(s), want)
+    told_coupon(c, term_text::read_coupon_date(s), want)
 }
 
 // A period's text; each that is asked is to be refused.
@@ -260,7 +260,7 @@ fn ask_period(c: Tally, s: &[u8], want: u32) -> Tally {
     print_bytes(b"- period ");
     print_bytes(s);
     end_question();
-    match period_text::read_period(s) {
+    match term_text::read_period(s) {
         PeriodAnswer::Period(p) => {
             print_period(p);
             ended(c, false)
@@ -286,7 +286,7 @@ fn ask_between(
     rule: DayCountConv,
     start: u32,
     end: u32,
-    x: Extras,
+    x: NoteTerms,
     want: f64,
     number: u32,
 ) -> Tally {
@@ -295,7 +295,7 @@ fn ask_between(
     print_date(s);
     print_bytes(b" to ");
     print_date(e);
-    let got = year_fractions::year_fraction(rule, s, e, x);
+    let got = day_count_conv::year_fraction(rule, s, e, x);
     told_amount(c, got, want, number)
 }
 
@@ -308,7 +308,7 @@ fn ask_fraction(
     want: f64,
     number: u32,
 ) -> Tally {
-    let x = Extras {
+    let x = NoteTerms {
         roll: RollDate::Absent,
         period: RollPeriod::Absent,
     };
@@ -318,8 +318,8 @@ fn ask_fraction(
 }
 
 // What ICMA asks for.
-fn rolled(p: TimePeriod, t: Date) -> Extras {
-    Extras {
+fn rolled(p: TimePeriod, t: Date) -> NoteTerms {
+    NoteTerms {
         roll: RollDate::Date(t),
         period: RollPeriod::Period(p),
     }
@@ -358,7 +358,7 @@ fn ask_icma(
 // ICMA, rolled from a date, but by no period.
 fn ask_unperioded(c: Tally, roll: u32, start: u32, end: u32, number: u32) -> Tally {
     let t = date_in(roll);
-    let x = Extras {
+    let x = NoteTerms {
         roll: RollDate::Date(t),
         period: RollPeriod::Absent,
     };

@@ -1,7 +1,7 @@
 // The program: reads a packed note and its table from standard input, and writes its flows or `refused N`.
 use libc::STDIN_FILENO;
 use libc::STDOUT_FILENO;
-use text::LengthAnswer;
+use number_text::LengthAnswer;
 
 // Made by a call, so that the proof of `main` does not write its bytes out.
 fn listing_room() -> [u8; 662000] {

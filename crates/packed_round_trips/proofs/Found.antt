@@ -1,19 +1,18 @@
 -- Fields that stand in bytes, one after the other: from the bits and back.
--- Assumes nothing.
 use Prim.Native.Nat.{ℕ, zero, suc, _+_, _*_, _≤_, _<_}
 use mathlib.Core.Path.{_≡_, refl, sym, ap, subst, _∙_}
 use mathlib.Core.List.{List, [], _∷_, _++_, append-assoc}
 use native.Mathlib.Nat.{add-zero, add-assoc}
 use native.Mathlib.Omega.{arith}
 use lib.ListN.{length, drop, length-append}
-use Rattle.paper.specs.Lists.{valuesFrom}
+use Rattle.outcome.specs.Lists.{valuesFrom}
 use Rattle.bit_fields.specs.Bits.{Field, fieldBits, fieldsBits, bitsOf, field}
 use Rattle.bit_fields.proofs.Bits.{length-field, widths, field-found, field-at}
-use Rattle.packed_numbers.specs.Numbers.{rawOf}
-use Rattle.packed_numbers.specs.declared.Raw.{Raw}
-use Rattle.packed_table.specs.Tables.{daysFrom}
-use Rattle.packed_raw.specs.Fits.{AllFit}
-use Rattle.packed_write.specs.Fields.{rawFields, dayFields}
+use Rattle.packed_read.specs.numbers.Numbers.{rawOf}
+use Rattle.packed_read.specs.declared.numbers.Raw.{Raw}
+use Rattle.packed_read.specs.table.Tables.{daysFrom}
+use Rattle.packed_write.specs.raw.Fits.{AllFit}
+use Rattle.packed_write.specs.packed.Fields.{rawFields, dayFields}
 
 -- each field is read from its place on
 abbrev pub Found : List ℕ → ℕ → List Field → Type 0

@@ -1,5 +1,4 @@
 -- A note and the numbers it is packed as, each from the other.
--- Assumes nothing.
 use Prim.Native.Nat.{ℕ, _^_, _<_, min}
 use mathlib.Core.Path.{_≡_, sym, ap, subst, _∙_}
 use mathlib.Core.Bool.{true, not}
@@ -9,26 +8,26 @@ use borrow.Author.Tests.{le-leb, eqb-true}
 use lib.Dec.{T, leb, eqb}
 use lib.Ieee.{binary64, ofBits, isNan}
 use lib.Ieee.Bits.{ofBits-toBits, toBits-ofBits}
-use Rattle.paper.specs.Outcome.{given, both}
-use Rattle.paper.proofs.Outcomes.{both-true, unless-given, then-given}
-use Rattle.time_period.specs.declared.TimePeriodUnit.{TimePeriodUnit}
-use Rattle.day_count_conv.specs.Conventions.{conventionOf}
-use Rattle.day_count_conv.specs.declared.DayCountConv.{DayCountConv}
-use Rattle.day_count_conv.proofs.OneOutcome.{code-back}
-use Rattle.note_limits.specs.Limits.{isRate}
-use Rattle.bond.specs.Notes.{noteChecks}
-use Rattle.bond.specs.declared.Note.{Note}
-use Rattle.note_limits.specs.declared.NoteNumber.{NoteNumber}
-use Rattle.bond.proofs.Ends.{passed}
+use Rattle.outcome.specs.Outcome.{given, both}
+use Rattle.outcome.proofs.Outcomes.{both-true, unless-given, then-given}
+use Rattle.time_period.specs.declared.steps.TimePeriodUnit.{TimePeriodUnit}
+use Rattle.day_count_conv.specs.conventions.Conventions.{conventionOf}
+use Rattle.day_count_conv.specs.declared.conventions.DayCountConv.{DayCountConv}
+use Rattle.day_count_conv.proofs.conventions.OneOutcome.{code-back}
+use Rattle.bond.specs.limits.Limits.{isCouponRate}
+use Rattle.bond.specs.note.Notes.{noteChecks}
+use Rattle.bond.specs.declared.note.Note.{Note}
+use Rattle.bond.specs.declared.limits.NoteNumber.{NoteNumber}
+use Rattle.bond.proofs.note.Ends.{passed}
 use Rattle.packed_codes.specs.Codes.{unitOfCode}
 use Rattle.packed_codes.proofs.Codes.{unit-back}
-use Rattle.packed_note.specs.Codes.{numberGood, digitsGood, digitsNumber}
-use Rattle.packed_note.specs.Records.{noteWith, checkedUnit, noteIn}
-use Rattle.packed_numbers.specs.declared.Raw.{Raw}
-use Rattle.packed_raw.specs.Codes.{digitsPlaces}
-use Rattle.packed_raw.specs.Fields.{rawWith}
-use Rattle.packed_raw.specs.Fits.{Packable}
-use Rattle.packed_raw.proofs.Accepted.{capitals, Digits, digits-known, in-twelve, accepted, rate-no-nan}
+use Rattle.packed_read.specs.note.Codes.{numberGood, digitsGood, digitsNumber}
+use Rattle.packed_read.specs.note.Records.{noteWith, checkedUnit, noteIn}
+use Rattle.packed_read.specs.declared.numbers.Raw.{Raw}
+use Rattle.packed_write.specs.raw.Codes.{digitsPlaces}
+use Rattle.packed_write.specs.raw.Fields.{rawWith}
+use Rattle.packed_write.specs.raw.Fits.{Packable}
+use Rattle.packed_write.proofs.raw.Accepted.{capitals, Digits, digits-known, in-twelve, accepted, rate-no-nan}
 use Rattle.packed_round_trips.specs.RoundTrips.{InMachine}
 use Rattle.packed_round_trips.proofs.Digits.{good-places, places-number, number-places}
 use Rattle.packed_round_trips.proofs.Codes.{unit-code, rule-back, rule-code, convention-code}
@@ -83,7 +82,7 @@ pub record Read (r : Raw) (n : Note) : Type 0 where
   pub convention-known : conventionOf (r .terms .convention) ≡ given convention
   pub itself : noteWith r unit convention ≡ n
   pub checked : noteChecks true true n ≡ given n
-  pub rate : isRate (n .rate) ≡ true
+  pub rate : isCouponRate (n .rate) ≡ true
 
 pub was-read : (r : Raw) (n : Note) → noteIn true true r ≡ given n → Read r n
 unfolding noteIn checkedUnit
@@ -102,7 +101,7 @@ was-read r n e =
       convention-known = c .1;
       itself = q .itself;
       checked = subst (λ (m : Note). noteChecks true true m ≡ given n) (q .itself) (c .2);
-      rate = subst (λ (m : Note). isRate (m .rate) ≡ true) (q .itself) (q .note .rate);
+      rate = subst (λ (m : Note). isCouponRate (m .rate) ≡ true) (q .itself) (q .note .rate);
     }
 
 same-places : (r : Raw) → numberGood (r .count) (r .digits) ≡ true → r .digits < 16 ^ 10 → digitsPlaces (r .count) 10 (digitsNumber (r .count) 10 (r .digits)) ≡ r .digits

@@ -1,5 +1,4 @@
 -- What is read without a refusal writes back.
--- Assumes nothing.
 use Prim.Native.Nat.{ℕ, _+_, _-_, _*_, _/_, _≤_, _<_}
 use mathlib.Core.Path.{_≡_, refl, sym, ap, ap₂, subst, _∙_}
 use mathlib.Core.Bool.{Bool, true}
@@ -12,23 +11,23 @@ use lib.ListN.{length, drop}
 use lib.Seq.{drop-length}
 use lib.IntN.{pos}
 use lib.Signed.{leZ}
-use Rattle.paper.specs.Outcome.{given}
-use Rattle.paper.proofs.Outcomes.{given-injective, both-true, then-given}
+use Rattle.outcome.specs.Outcome.{given}
+use Rattle.outcome.proofs.Outcomes.{given-injective, both-true, then-given}
 use Rattle.bit_fields.specs.Bits.{fieldBits, fieldsBits, bitsOf, bytesOf, field, AreBytes}
 use Rattle.bit_fields.proofs.Bits.{widths, length-fields, length-bits, field-at, field-below, bytes-back}
-use Rattle.holidays.specs.Table.{isTable}
-use Rattle.bond.specs.declared.Note.{Note}
-use Rattle.packed_numbers.specs.Numbers.{rawOf}
-use Rattle.packed_note.specs.Records.{noteIn}
-use Rattle.packed_numbers.specs.declared.Raw.{Raw}
-use Rattle.packed_table.specs.Tables.{tableCount, tableDays, isWhole, isTableIn}
-use Rattle.packed_table.proofs.Tables.{whole-long, whole-length, length-days, exact}
-use Rattle.packed.specs.Tables.{noteInBytes, Unpacked, unpacked}
-use Rattle.packed.proofs.Reading.{bytes-given, few-days}
-use Rattle.packed_raw.specs.Fields.{rawWith}
-use Rattle.packed_write.specs.Fields.{rawFields, tableFields, zerosBehind, wholeBytes, rawBytes}
-use Rattle.packed_write.specs.Writing.{packedNote}
-use Rattle.packed_write.proofs.Fields.{length-record}
+use Rattle.business_days.specs.table.Table.{isTable}
+use Rattle.bond.specs.declared.note.Note.{Note}
+use Rattle.packed_read.specs.numbers.Numbers.{rawOf}
+use Rattle.packed_read.specs.note.Records.{noteIn}
+use Rattle.packed_read.specs.declared.numbers.Raw.{Raw}
+use Rattle.packed_read.specs.table.Tables.{tableCount, tableDays, isWhole, isTableIn}
+use Rattle.packed_read.proofs.table.Tables.{whole-long, whole-length, length-days, exact}
+use Rattle.packed_read.specs.packed.Notes.{noteInBytes, Unpacked, unpacked}
+use Rattle.packed_read.proofs.packed.Reading.{bytes-given, few-days}
+use Rattle.packed_write.specs.raw.Fields.{rawWith}
+use Rattle.packed_write.specs.packed.Fields.{rawFields, tableFields, zerosBehind, wholeBytes, rawBytes}
+use Rattle.packed_write.specs.packed.Writing.{packedNote}
+use Rattle.packed_write.proofs.packed.Fields.{length-record}
 use Rattle.packed_round_trips.proofs.Found.{Found, found-bits, found-both, raw-found, days-found}
 use Rattle.packed_round_trips.proofs.Notes.{Narrow, Read, was-read, raw-back}
 use Rattle.packed_round_trips.proofs.Written.{zeros-left}

@@ -1,5 +1,4 @@
 -- What is written reads back.
--- Assumes nothing.
 use Prim.Native.Nat.{ℕ, zero, suc, _+_, _-_, _*_, _/_, _%_}
 use mathlib.Core.Path.{_≡_, refl, sym, ap, _∙_}
 use mathlib.Core.Bool.{true}
@@ -11,28 +10,28 @@ use lib.ListN.{length}
 use lib.IntN.{pos}
 use lib.Signed.{leZ}
 use lib.Pow.{pow-pos}
-use Rattle.paper.specs.Outcome.{given, andThen}
-use Rattle.paper.proofs.Lists.{every-append}
-use Rattle.paper.proofs.Outcomes.{given-injective, unless-given, then-given}
+use Rattle.outcome.specs.Outcome.{given, andThen}
+use Rattle.outcome.proofs.Lists.{every-append}
+use Rattle.outcome.proofs.Outcomes.{given-injective, unless-given, then-given}
 use Rattle.bit_fields.specs.Bits.{inBits, fieldBits, fieldsBits, bitsOf, field, AreBytes}
 use Rattle.bit_fields.proofs.Bits.{fields-are, field-found}
-use Rattle.holidays.specs.Table.{ascendsFrom, isTable}
-use Rattle.holidays.proofs.Table.{ascends-cons, table-ascends, table-most}
-use Rattle.bond.specs.Notes.{noteChecks}
-use Rattle.bond.specs.declared.Note.{Note}
-use Rattle.bond.proofs.Ends.{passed}
-use Rattle.packed_numbers.specs.Numbers.{rawOf}
-use Rattle.packed_numbers.specs.declared.Raw.{Raw}
-use Rattle.packed_table.specs.Tables.{tableCount, daysFrom, tableDays, isWhole, isTableIn}
-use Rattle.packed_table.proofs.Tables.{exact}
-use Rattle.packed.specs.Tables.{noteInBytes, unpacked}
-use Rattle.packed_raw.specs.Fields.{numberFields, dateFields, couponFields, termsFields, lettersFields, rawWith}
-use Rattle.packed_raw.specs.Fits.{Fits, AllFit, RawFits, Packable}
-use Rattle.packed_raw.proofs.Accepted.{raw-fits}
-use Rattle.packed_write.specs.Fields.{headFields, middleFields, tailFields, rawFields, dayFields, tableFields, zerosBehind, rawBytes, recordBytes}
-use Rattle.packed_write.specs.Writing.{packedNote}
-use Rattle.packed_write.proofs.Answers.{note-packable}
-use Rattle.packed_write.proofs.Fields.{length-record, whole-bits, whole-bytes, bytes-length}
+use Rattle.business_days.specs.table.Table.{ascendsFrom, isTable}
+use Rattle.business_days.proofs.table.Table.{ascends-cons, table-ascends, table-most}
+use Rattle.bond.specs.note.Notes.{noteChecks}
+use Rattle.bond.specs.declared.note.Note.{Note}
+use Rattle.bond.proofs.note.Ends.{passed}
+use Rattle.packed_read.specs.numbers.Numbers.{rawOf}
+use Rattle.packed_read.specs.declared.numbers.Raw.{Raw}
+use Rattle.packed_read.specs.table.Tables.{tableCount, daysFrom, tableDays, isWhole, isTableIn}
+use Rattle.packed_read.proofs.table.Tables.{exact}
+use Rattle.packed_read.specs.packed.Notes.{noteInBytes, unpacked}
+use Rattle.packed_write.specs.raw.Fields.{numberFields, dateFields, couponFields, termsFields, lettersFields, rawWith}
+use Rattle.packed_write.specs.raw.Fits.{Fits, AllFit, RawFits, Packable}
+use Rattle.packed_write.proofs.raw.Accepted.{raw-fits}
+use Rattle.packed_write.specs.packed.Fields.{headFields, middleFields, tailFields, rawFields, dayFields, tableFields, zerosBehind, rawBytes, recordBytes}
+use Rattle.packed_write.specs.packed.Writing.{packedNote}
+use Rattle.packed_write.proofs.packed.Answers.{note-packable}
+use Rattle.packed_write.proofs.packed.Fields.{length-record, whole-bits, whole-bytes, bytes-length}
 use Rattle.packed_round_trips.specs.RoundTrips.{InMachine}
 use Rattle.packed_round_trips.proofs.Found.{Found, found-in, found-first, found-later, raw-read, days-read}
 use Rattle.packed_round_trips.proofs.Notes.{note-read}

@@ -1,4 +1,4 @@
--- Arithmetic of whole numbers that the laws of rounding share. Assumes nothing.
+-- Arithmetic of whole numbers that the laws of rounding share.
 use Prim.Native.Nat.{ℕ, _+_, _*_, _≤_, _<_}
 use mathlib.Core.Path.{_≡_}
 use mathlib.Core.Bool.{Bool, true, false, not}

@@ -1,4 +1,4 @@
--- From `Near` to `Close`, which is what a promise says, and back. Assumes nothing.
+-- From `Near` to `Close`, which is what a promise says, and back.
 use mathlib.Core.Path.{_≡_, refl, sym, ap, _∙_}
 use Prim.Native.Nat.{ℕ, _+_, _*_, _^_, _≤_, _<_}
 use native.Mathlib.Nat.{zero-mul, mul-comm, mul-pos, mul-le-mul-left, mul-le-mul-right, le-of-mul-le-mul-left}

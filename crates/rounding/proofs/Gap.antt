@@ -1,4 +1,4 @@
--- The difference of two small unsigned numbers as `i32`s: `a as i32 - b as i32` is a - b. Assumes nothing.
+-- The difference of two small unsigned numbers as `i32`s: `a as i32 - b as i32` is a - b.
 use mathlib.Core.Path.{_≡_, sym, ap₂, _∙_, subst₂}
 use Prim.Native.Nat.{ℕ, _+_, _^_, _≤_, _<_}
 use native.Mathlib.Nat.{le-suc, le-refl}

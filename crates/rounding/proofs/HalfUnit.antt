@@ -1,4 +1,4 @@
--- Rounding is within half a unit in the last place, over whole numbers: in units of the format's smallest value, 2 ^ -low. Assumes nothing.
+-- Rounding is within half a unit in the last place, over whole numbers: in units of the format's smallest value, 2 ^ -low.
 use mathlib.Core.Path.{_≡_, sym, subst}
 use Prim.Native.Nat.{ℕ, suc, _+_, _-_, _*_, _/_, _%_, _^_, _≤_, _<_, compare, Ordering, Ordering·lt, Ordering·eq, Ordering·gt}
 use native.Mathlib.Nat.{lt-of-lt-of-le, mul-comm, add-mul, suc-mul, sub-le, two-pow-succ, mul-le-mul-right, mul-le-mul-left, lt-of-mul-lt-mul-right, mul-pos, div-add-mod', div-lt-iff-lt-mul, mod-lt}

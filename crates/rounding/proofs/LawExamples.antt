@@ -1,4 +1,4 @@
--- The laws at numbers: none of them is empty. Assumes nothing.
+-- The laws at numbers: none of them is empty.
 use mathlib.Core.Path.{_≡_, refl, sym}
 use Prim.Native.Nat.{_*_, _^_, zero-le}
 use mathlib.Core.Bool.{true, false, true≢false}

@@ -2,7 +2,6 @@
 -- All of it is over naturals: a signed number is a difference of two that is never taken. A chain of rules, one for each operation, bounds the error of a
 -- computation: `near-int`, `near-add`, `near-sub`, `near-neg` here, `near-mul` in Product, `near-quot` and `near-div` in Quotient, `near-own` and
 -- `near-close` in CloseLaws, `near-between` in Range. In each, t is chosen so that the exact result is below 2 ^ t, and its rounding costs 2 ^ (46 + t).
--- Assumes nothing.
 use mathlib.Core.Path.{_≡_, refl, sym, ap, _∙_, subst}
 use Prim.Native.Nat.{ℕ, suc, _+_, _-_, _*_, _^_, _≤_, _<_}
 use native.Mathlib.Nat.{le-refl, le-trans, lt-of-le-of-lt, mul-one, mul-comm, mul-le-mul-left, mul-le-mul-right, mul-lt-mul-of-pos-right, le-of-mul-le-mul-left, mul-pos}

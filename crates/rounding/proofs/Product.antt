@@ -1,4 +1,4 @@
--- The product of two values that are `Near` fractions, of either sign. Assumes nothing.
+-- The product of two values that are `Near` fractions, of either sign.
 use mathlib.Core.Path.{_≡_, refl, sym, _∙_, ap, ap₂, subst}
 use Prim.Native.Nat.{ℕ, _+_, _*_, _^_, _≤_, _<_}
 use native.Mathlib.Nat.{le-of-lt, mul-le-mul-left, mul-le-mul-right, mul-lt-mul-of-pos-left, mul-lt-mul-of-pos-right, mul-comm, mul-right-comm, le-of-mul-le-mul-left, eq-of-mul-eq-mul-right, mul-pos}

@@ -1,4 +1,4 @@
--- A float that two comparisons of the code put between two others is `Near` the fraction that it means: it is no NaN and no infinity. Assumes nothing.
+-- A float that two comparisons of the code put between two others is `Near` the fraction that it means: it is no NaN and no infinity.
 use mathlib.Core.Path.{_≡_, refl, sym, _∙_, subst}
 use Prim.Native.Nat.{ℕ, _*_, _^_, _≤_, _<_, zero-le}
 use native.Mathlib.Nat.{le-refl, le-of-eq, le-of-lt, mul-le-mul-right, le-of-mul-le-mul-right}

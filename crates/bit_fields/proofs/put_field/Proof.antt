@@ -1,5 +1,4 @@
 -- `bit_fields::put_field` meets its contract: the bits at hand and the field's go out as whole bytes, and fewer than eight stay.
--- Assumes nothing.
 use Prim.Native.Nat.{_-_}
 use mathlib.Core.Path.{refl}
 use native.Mathlib.Omega.{arith}

@@ -1,5 +1,4 @@
 -- `bit_fields::read_field` meets its contract: whole bytes, without the bits behind and before.
--- Assumes nothing.
 use borrow.Author.Needs.{needs}
 use denote.Ref.{now}
 use lib.Pow.{pow-pos}

@@ -1,5 +1,4 @@
 -- `day_fraction::signed_difference` meets its contract: the difference of two small numbers fits, and is theirs.
--- Assumes nothing.
 use Prim.Native.Nat.{_<_, _^_}
 use mathlib.Core.Path.{ap}
 use native.Mathlib.Omega.{arith}

@@ -1,8 +1,7 @@
 -- `listing::main` is safe: what it writes stands in its bytes.
--- Assumes nothing.
 use mathlib.Core.Path.{sym}
 use lib.Seq.{length-take-le}
-use Rattle.note_listing.proofs.OneOutcome.{listed-within}
+use Rattle.note_listing.proofs.note.OneOutcome.{listed-within}
 use borrow.Author.Needs.{needs}
 use Rattle.listing.proofs.main.Statement.{statement}
 use Rattle.listing.proofs.main.Tie as tie

@@ -1,5 +1,4 @@
 -- `packed_codes::unit_of_code` meets its contract: each arm of the `match` has its number, and `_` has none of them.
--- Assumes nothing.
 use Rattle.packed_codes.specs.Codes.{unitOfCode}
 use Rattle.packed_codes.proofs.Codes.{unit-else}
 use Rattle.packed_codes.proofs.unit_of_code.Statement.{statement}

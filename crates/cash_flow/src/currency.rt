@@ -1,0 +1,60 @@
+// Amounts of money: a currency of three letters, the limits of an amount, and the answer that it is.
+ghost use mathlib.Core.Path.{_≡_};
+ghost use Rattle.cash_flow.specs.currency.Amounts.{isCapital, isCurrency, isSameCurrency, upTo};
+
+// finql keeps three `char`s in an array; fields may stand in an enum, an array may not.
+pub struct Currency {
+    pub first: u8,
+    pub second: u8,
+    pub third: u8,
+}
+
+pub enum AmountAnswer {
+    Amount(f64),
+    Refused(u32),
+}
+
+fn is_capital(b: u8) -> bool
+    ensures { λ r. ⌜ r ≡ isCapital b ⌝ }
+{
+    if b < b'A' {
+        return false;
+    }
+    b <= b'Z'
+}
+
+// Three capitals.
+pub fn is_currency(c: Currency) -> bool
+    ensures { λ r. ⌜ r ≡ isCurrency c ⌝ }
+{
+    if !is_capital(c.first) {
+        return false;
+    }
+    if !is_capital(c.second) {
+        return false;
+    }
+    is_capital(c.third)
+}
+
+// Whether two currencies have the same letters; it refuses nothing.
+pub fn is_same_currency(a: Currency, b: Currency) -> bool
+    ensures { λ r. ⌜ r ≡ isSameCurrency a b ⌝ }
+{
+    if a.first != b.first {
+        return false;
+    }
+    if a.second != b.second {
+        return false;
+    }
+    a.third == b.third
+}
+
+// Finite, from -1e9 to 1e9; a negative zero is one of them, and no comparison holds of a NaN.
+pub fn is_up_to_billion(x: f64) -> bool
+    ensures { λ r. ⌜ r ≡ upTo 1000000000 x ⌝ }
+{
+    if x <= 1e9 {
+        return -1e9 <= x;
+    }
+    false
+}

@@ -1,0 +1,69 @@
+// Cash flows: an amount of a currency on a date; comparison of two.
+ghost use mathlib.Core.Path.{_≡_};
+ghost use Rattle.cash_flow.specs.flow.Flows.{noDate, dateOn, isWithin, AggregatablePromise, ComparisonPromise};
+use crate::currency::Currency;
+use calendar::Date;
+use calendar::DateAnswer;
+use calendar::Day;
+
+pub struct CashFlow {
+    pub date: Date,
+    pub currency: Currency,
+    pub amount: f64,
+}
+
+// How many flows were written into lent room.
+pub enum FlowsAnswer {
+    Flows(usize),
+    Refused(u32),
+}
+
+fn no_date() -> Date
+    ensures { λ r. ⌜ r ≡ noDate ⌝ }
+{
+    Date {
+        year: 0,
+        month: 0,
+        day: 0,
+    }
+}
+
+// Inner: a day in a plain list is judged by who reads the list. Its date; one that does not exist for a day that does not.
+pub fn date_or_none(day: u32) -> Date
+    ensures { λ r. ⌜ r ≡ dateOn day ⌝ }
+{
+    match calendar::date_of(Day(day)) {
+        DateAnswer::Date(date) => date,
+        DateAnswer::Refused(_n) => no_date(),
+    }
+}
+
+// The same date and the same currency; it refuses nothing, and neither has to exist.
+pub fn aggregatable(a: CashFlow, b: CashFlow) -> bool
+    ensures { λ r. ⌜ AggregatablePromise a b r ⌝ }
+{
+    if !calendar::is_same(a.date, b.date) {
+        return false;
+    }
+    crate::currency::is_same_currency(a.currency, b.currency)
+}
+
+// finql's `abs() <= tol`, the sign dropped by hand; a NaN on either side is no.
+fn is_within(d: f64, tol: f64) -> bool
+    ensures { λ r. ⌜ r ≡ isWithin d tol ⌝ }
+{
+    if d < 0.0 {
+        return -d <= tol;
+    }
+    d <= tol
+}
+
+// Equal within a tolerance; it refuses nothing.
+pub fn fuzzy_cash_flows_cmp_eq(a: CashFlow, b: CashFlow, tol: f64) -> bool
+    ensures { λ r. ⌜ ComparisonPromise a b tol r ⌝ }
+{
+    if !aggregatable(a, b) {
+        return false;
+    }
+    is_within(a.amount - b.amount, tol)
+}

@@ -1,0 +1,4 @@
+pub mod Lists
+pub mod Outcome
+pub mod Walks
+pub mod Room

@@ -1,0 +1,56 @@
+-- `packed_read::is_whole` meets its contract: each `return` is one of its tests.
+use native.Mathlib.Omega.{arith}
+use denote.Ref.{now}
+use Rattle.packed_read.proofs.table.Tables.{too-short, too-many, not-exact, exact}
+use borrow.Author.Needs.{needs}
+use Rattle.packed_read.proofs.table.is_whole.Statement.{statement}
+use Rattle.packed_read.proofs.table.is_whole.Tie as tie
+
+returns : tie.Need-returns
+returns c = too-short (now (c .before .before .args .s)) (omega arith)
+
+table-count-requires : tie.Need-table-count-requires
+table-count-requires c κs = search needs
+
+returns-2 : tie.Need-returns-2
+returns-2 c = too-many (now (c .before .before .before .before .args .s)) _ (c .before .table-count .ensures .0) (omega arith) (c .if2 .taken)
+
+mul-end : tie.Need-mul-end
+mul-end c = search needs
+
+add-end : tie.Need-add-end
+add-end c = search needs
+
+add-if3 : tie.Need-add-if3
+add-if3 c = search needs
+
+returns-3 : tie.Need-returns-3
+returns-3 c = not-exact (now (c .before .before .before .before .before .args .s)) _ (c .before .before .table-count .ensures .0) (omega arith) (omega arith) (c .if3 .taken)
+
+mul-read-field : tie.Need-mul-read-field
+mul-read-field c = search needs
+
+sub-read-field : tie.Need-sub-read-field
+sub-read-field c = search needs
+
+read-field-requires : tie.Need-read-field-requires
+read-field-requires c κs = search needs
+
+returns-4 : tie.Need-returns-4
+returns-4 c = exact (now (c .before .before .before .before .before .before .args .s)) _ _ (c .before .before .before .table-count .ensures .0) (omega arith) (omega arith) (c .before .if3 .left) (c .read-field .ensures)
+
+pub is-whole-spec : {M : Type 1} → statement M
+is-whole-spec =
+    tie.close
+    (tie.spec
+    returns
+    table-count-requires
+    returns-2
+    mul-end
+    add-end
+    add-if3
+    returns-3
+    mul-read-field
+    sub-read-field
+    read-field-requires
+    returns-4)

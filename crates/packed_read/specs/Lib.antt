@@ -1,0 +1,4 @@
+pub mod numbers
+pub mod table
+pub mod note
+pub mod packed

@@ -1,0 +1,131 @@
+-- What an accepted note has, so that its numbers fit their bits.
+use Prim.Native.Nat.{ℕ, _^_, _≤_, _<_}
+use mathlib.Core.Path.{_≡_, sym, subst}
+use mathlib.Core.Bool.{true, not, false≢true}
+use native.Mathlib.Omega.{arith}
+use borrow.Author.Tests.{leb-true, ltb-true}
+use lib.Dec.{T, leb, ltb}
+use lib.IntN.{ℤ, pos, natAbs}
+use lib.Signed.{leZ, ltZ}
+use lib.Ieee.{Float, nan, inf, fin, binary64, fits, isNan}
+use lib.Ieee.Bits.{toBits-lt}
+use Rattle.outcome.specs.Outcome.{given, both}
+use Rattle.outcome.proofs.Numbers.{between}
+use Rattle.outcome.proofs.Outcomes.{both-true, unless-given}
+use Rattle.calendar.proofs.gregorian.Months.{at-most}
+use Rattle.calendar.specs.dates.Dates.{isDate}
+use Rattle.calendar.specs.declared.dates.Date.{Date}
+use Rattle.calendar.proofs.dates.Dates.{date-yes}
+use Rattle.coupon_date.specs.Coupons.{couponDate}
+use Rattle.coupon_date.proofs.Coupons.{coupon-yes}
+use Rattle.coupon_date.specs.declared.CouponDate.{CouponDate}
+use Rattle.cash_flow.specs.currency.Amounts.{isCapital, isCurrency}
+use Rattle.cash_flow.specs.declared.currency.Currency.{Currency}
+use Rattle.time_period.specs.declared.steps.TimePeriodUnit.{TimePeriodUnit}
+use Rattle.day_adjust.specs.declared.DayAdjust.{DayAdjust}
+use Rattle.day_adjust.specs.declared.DayAdjust.the-variants as rule
+use Rattle.day_count_conv.specs.conventions.Conventions.{codeOf, conventionOf}
+use Rattle.day_count_conv.specs.declared.conventions.DayCountConv.{DayCountConv}
+use Rattle.day_count_conv.proofs.conventions.OneOutcome.{code-back}
+use Rattle.bond.specs.limits.Limits.{isNoteNumber, isCouponRate}
+use Rattle.bond.specs.declared.note.Note.{Note}
+use Rattle.bond.specs.declared.limits.NoteNumber.{NoteNumber}
+use Rattle.bond.proofs.note.Ends.{Accepted, passed}
+use Rattle.packed_codes.specs.Codes.{unitOfCode, codeOfUnit}
+use Rattle.packed_codes.proofs.Codes.{unit-back}
+use Rattle.packed_write.specs.raw.Codes.{ruleCode}
+use Rattle.packed_write.specs.raw.Fields.{dateFields, couponFields, lettersFields, lettersWith, rawWith}
+use Rattle.packed_write.specs.raw.Fits.{AllFit, RawFits, Packable}
+use Rattle.time_period.proofs.steps.Signs.{above}
+use Rattle.packed_write.proofs.raw.Codes.{places-below}
+
+-- ---- a rate is no NaN
+
+pub rate-no-nan : (x : Float) → isCouponRate x ≡ true → T (not (isNan x))
+unfolding isCouponRate isNan
+rate-no-nan nan e = absurd (false≢true e)
+rate-no-nan (inf s) e = tt
+rate-no-nan (fin s m d) e = tt
+
+-- ---- letters
+
+pub record Capitals (c : Currency) : Type 0 where
+  pub first : (65 ≤ c .first) × (c .first ≤ 90)
+  pub second : (65 ≤ c .second) × (c .second ≤ 90)
+  pub third : (65 ≤ c .third) × (c .third ≤ 90)
+
+capital : (b : ℕ) → isCapital b ≡ true → (65 ≤ b) × (b ≤ 90)
+unfolding isCapital
+capital b e = between 65 b 90 e
+
+pub capitals : (c : Currency) → isCurrency c ≡ true → Capitals c
+unfolding isCurrency
+capitals c e =
+    let p = both-true (isCapital (c .first)) (both (isCapital (c .second)) (isCapital (c .third))) e in
+    let q = both-true (isCapital (c .second)) (isCapital (c .third)) (p .1) in
+    record { first = capital (c .first) (p .0); second = capital (c .second) (q .0); third = capital (c .third) (q .1) }
+
+letters-fit : (c : Currency) → Capitals c → AllFit (lettersFields (lettersWith c))
+letters-fit c h = (omega (arith, h .first), (omega (arith, h .second), (omega (arith, h .third), omega arith)))
+
+-- ---- dates
+
+date-fits : (t : Date) → isDate t ≡ true → AllFit (dateFields t)
+date-fits t e = let h = date-yes t e in (omega (arith, h .year-to), (omega (arith, h .month-to), (omega (arith, h .day-to, at-most (t .year) (t .month)), omega arith)))
+
+coupon-fits : (c : CouponDate) → couponDate (c .day) (c .month) ≡ given c → AllFit (couponFields c)
+coupon-fits c e = let h = coupon-yes (c .day) (c .month) c e in (omega (arith, h .day-to, at-most 2019 (c .month)), (omega (arith, h .month-to), omega arith))
+
+-- ---- terms: a code that is read back is one that there is
+
+unit-below : (u : TimePeriodUnit) → codeOfUnit u < 5
+unfolding unitOfCode
+unit-below u = ltb-true (codeOfUnit u) 5 (unless-given (ltb (codeOfUnit u) 5) 18 _ u (unit-back u) .0)
+
+rule-below : (r : DayAdjust) → ruleCode r < 4
+rule-below rule.None = omega arith
+rule-below rule.Following = omega arith
+rule-below rule.Preceding = omega arith
+rule-below rule.Modified = omega arith
+
+code-below : (c : DayCountConv) → codeOf c < 6
+unfolding conventionOf
+code-below c = ltb-true (codeOf c) 6 (unless-given (ltb (codeOf c) 6) 18 _ c (code-back c) .0)
+
+-- a period from 1 to 4,095
+pub in-twelve : (z : ℤ) → ltZ (pos 0) z ≡ true → leZ z (pos 4095) ≡ true → (natAbs z ≤ 4095) × (pos (natAbs z) ≡ z)
+in-twelve z h l = let a = above z h .0 in (leb-true (natAbs z) 4095 (subst (λ (w : ℤ). leZ w (pos 4095) ≡ true) a l), sym a)
+
+-- ---- the number
+
+pub record Digits (n : NoteNumber) : Type 0 where
+  pub from : 1 ≤ n .count
+  pub to : n .count ≤ 10
+  pub below : n .digits < 10 ^ n .count
+
+pub digits-known : (n : NoteNumber) → isNoteNumber n ≡ true → Digits n
+unfolding isNoteNumber
+digits-known n e =
+    let p = both-true (both (leb 1 (n .count)) (leb (n .count) 10)) (ltb (n .digits) (10 ^ n .count)) e in
+    let q = between 1 (n .count) 10 (p .0) in
+    record { from = q .0; to = q .1; below = ltb-true (n .digits) (10 ^ n .count) (p .1) }
+
+-- ---- all of them
+
+pub accepted : (n : Note) → Packable n → Accepted n
+accepted n h = passed true true n n (h .1) .note
+
+pub raw-fits : (n : Note) → Packable n → n .denomination < 2 ^ 32 → T (fits binary64 (n .rate)) → RawFits (rawWith n)
+raw-fits n h d f =
+    let a = accepted n h in
+    record {
+      number = (omega (arith, digits-known (n .number) (a .number) .to), (places-below (n .number .count) 10 (n .number .digits), omega arith));
+      issue = date-fits (n .«issue_date») (a .issued);
+      maturity = date-fits (n .maturity) (a .matures);
+      coupon = coupon-fits (n .«coupon_date») (a .coupon);
+      terms = (omega (arith, unit-below (n .period .unit)), (omega (arith, in-twelve (n .period .num) (a .period) (h .0) .0), (omega (arith, code-below (n .«day_count_convention»)), (omega (arith, rule-below (n .«business_day_rule»)), omega arith))));
+      denomination = d;
+      rate = toBits-lt binary64 (n .rate) f;
+      letters = letters-fit (n .currency) (capitals (n .currency) (a .currency));
+      spare = omega arith;
+    }

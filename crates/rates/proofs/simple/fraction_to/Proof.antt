@@ -1,0 +1,15 @@
+-- `rates::fraction_to` meets its contract: the fraction without extras.
+use borrow.Author.Needs.{needs}
+use Rattle.rates.specs.simple.Rates.{fractionTo}
+use Rattle.rates.proofs.simple.fraction_to.Statement.{statement}
+use Rattle.rates.proofs.simple.fraction_to.Tie as tie
+
+year-fraction-requires : tie.Need-year-fraction-requires
+year-fraction-requires c κs = search needs
+
+returns : tie.Need-returns
+unfolding fractionTo
+returns c = c .year-fraction .ensures .0
+
+pub fraction-to-spec : {M : Type 1} → statement M
+fraction-to-spec = tie.close (tie.spec year-fraction-requires returns)

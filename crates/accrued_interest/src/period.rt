@@ -10,9 +10,6 @@ ghost use Rattle.day_count_conv.specs.conventions.Conventions as fraction;
 ghost use Rattle.accrued_interest.specs.period.PeriodInterest.{Begun, elapsedDays, periodDays, rolled, dueBits, amountDue, accruedIn, amountsInF64};
 use bond::Note;
 use calendar::Date;
-use day_count_conv::NoteTerms;
-use day_count_conv::RollDate;
-use day_count_conv::RollPeriod;
 use day_count_conv::YearFraction;
 
 // A coupon period, by its unadjusted dates.
@@ -28,12 +25,9 @@ fn fraction(note: Note, p: CouponPeriod) -> YearFraction
 {
     let start = p.start;
     let period = note.period;
-    let rule = note.day_count_convention;
-    let x = NoteTerms {
-        roll: RollDate::Date(start),
-        period: RollPeriod::Period(period),
-    };
-    day_count_conv::fraction_judged(rule, start, p.end, x)
+    let convention = note.day_count_convention;
+    let terms = day_count_conv::rolled_from(start, period);
+    day_count_conv::fraction_judged(convention, start, p.end, terms)
 }
 
 // Elapsed days over period days.

@@ -46,17 +46,17 @@ fn holiday_before(table: &[u32], i: usize) -> u32
 }
 
 // Inner: the place of the first holiday that is not before a day, from a place near it, where that is not past it: a rollout's days come in order, so that it searches once and then passes its holidays.
-pub fn lower_bound_from(table: &[u32], n: u32, near: usize) -> usize
+pub fn lower_bound_from(table: &[u32], n: u32, hint: usize) -> usize
     requires { ⌜ ascending (now table) ≡ true ⌝ }
     ensures { λ r. ⌜ IsLowerBound (now (table .entry)) n r ⌝ }
 {
-    if table.len() < near {
+    if table.len() < hint {
         return crate::table::lower_bound(table, n);
     }
-    if n <= holiday_before(table, near) {
+    if n <= holiday_before(table, hint) {
         return crate::table::lower_bound(table, n);
     }
-    let mut i = near;
+    let mut i = hint;
     while i < table.len() {
         if n <= table[i] {
             return i;

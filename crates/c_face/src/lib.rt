@@ -14,7 +14,7 @@ ghost use Rattle.coupon_date.specs.Coupons.{couponDate};
 ghost use Rattle.term_text.specs.coupon.CouponTexts.{couponText, couponDateText};
 ghost use Rattle.business_days.specs.days.Answers.{isBusinessDay, bdaysLater, bdaysEarlier};
 ghost use Rattle.day_adjust.specs.Adjustment.{adjustDate};
-ghost use Rattle.day_count_conv.specs.conventions.Conventions.{conventionOf, yearFraction, fractionsInF64, none, rolledFrom};
+ghost use Rattle.day_count_conv.specs.conventions.Conventions.{conventionOf, yearFraction, fractionsInF64, noTerms, rolledFrom};
 ghost use Rattle.cash_flow.specs.round.RoundedAmounts.{round2digitsOf};
 ghost use Rattle.decimal.specs.float.Decimal.{decimalShown};
 ghost use Rattle.cash_flow.specs.flow.Flows.{sameFlows};
@@ -42,23 +42,12 @@ use cash_flow::Currency;
 use coupon_date::CouponDate;
 use day_count_conv::ConventionAnswer;
 use day_count_conv::DayCountConv;
-use day_count_conv::NoteTerms;
-use day_count_conv::RollDate;
-use day_count_conv::RollPeriod;
 use rates::FlatRate;
 use time_period::PeriodAnswer;
 use time_period::TimePeriod;
 
-fn rolled_from(t: Date, p: TimePeriod) -> NoteTerms
-    ensures { λ r. ⌜ r ≡ rolledFrom t p ⌝ }
-{
-    let roll = RollDate::Date(t);
-    let period = RollPeriod::Period(p);
-    NoteTerms { roll, period }
-}
-
-fn flat_rate(rate: f64, rule: DayCountConv, c1: u8, c2: u8, c3: u8) -> FlatRate
-    ensures { λ r. ⌜ r ≡ flatRate rate rule (currency c1 c2 c3) ⌝ }
+fn flat_rate(rate: f64, convention: DayCountConv, c1: u8, c2: u8, c3: u8) -> FlatRate
+    ensures { λ r. ⌜ r ≡ flatRate rate convention (currency c1 c2 c3) ⌝ }
 {
     let currency = Currency {
         first: c1,
@@ -67,7 +56,7 @@ fn flat_rate(rate: f64, rule: DayCountConv, c1: u8, c2: u8, c3: u8) -> FlatRate
     };
     FlatRate {
         rate,
-        day_count_conv: rule,
+        day_count_conv: convention,
         currency,
     }
 }
@@ -317,7 +306,7 @@ pub extern "C" fn notes_adjust_date(
 // The year fraction from start to end, with no roll date and no period.
 #[no_mangle]
 pub extern "C" fn notes_year_fraction(
-    rule: u32,
+    convention: u32,
     start_year: u32,
     start_month: u32,
     start_day: u32,
@@ -326,9 +315,9 @@ pub extern "C" fn notes_year_fraction(
     end_day: u32,
     fraction: &mut f64,
 ) -> u32
-    ensures { λ r. ⌜ HandsOver (andThen (conventionOf rule) (λ c. yearFraction fractionsInF64 c (date «start_year» «start_month» «start_day») (date «end_year» «end_month» «end_day») none)) r (now (fraction .entry)) (now (fraction .exit)) ⌝ }
+    ensures { λ r. ⌜ HandsOver (andThen (conventionOf convention) (λ c. yearFraction fractionsInF64 c (date «start_year» «start_month» «start_day») (date «end_year» «end_month» «end_day») noTerms)) r (now (fraction .entry)) (now (fraction .exit)) ⌝ }
 {
-    match packed_codes::convention_of_code(rule) {
+    match packed_codes::convention_of_code(convention) {
         ConventionAnswer::Convention(c) => {
             let start = Date {
                 year: start_year,
@@ -350,7 +339,7 @@ pub extern "C" fn notes_year_fraction(
 // The year fraction from start to end, with a roll date and a period, which ICMA asks for.
 #[no_mangle]
 pub extern "C" fn notes_year_fraction_rolled(
-    rule: u32,
+    convention: u32,
     start_year: u32,
     start_month: u32,
     start_day: u32,
@@ -364,9 +353,9 @@ pub extern "C" fn notes_year_fraction_rolled(
     unit: u32,
     fraction: &mut f64,
 ) -> u32
-    ensures { λ r. ⌜ HandsOver (andThen (conventionOf rule) (λ c. andThen (periodOfNumbers num unit) (λ p. yearFraction fractionsInF64 c (date «start_year» «start_month» «start_day») (date «end_year» «end_month» «end_day») (rolledFrom (date «roll_year» «roll_month» «roll_day») p)))) r (now (fraction .entry)) (now (fraction .exit)) ⌝ }
+    ensures { λ r. ⌜ HandsOver (andThen (conventionOf convention) (λ c. andThen (periodOfNumbers num unit) (λ p. yearFraction fractionsInF64 c (date «start_year» «start_month» «start_day») (date «end_year» «end_month» «end_day») (rolledFrom (date «roll_year» «roll_month» «roll_day») p)))) r (now (fraction .entry)) (now (fraction .exit)) ⌝ }
 {
-    match packed_codes::convention_of_code(rule) {
+    match packed_codes::convention_of_code(convention) {
         ConventionAnswer::Convention(c) => match c_values::period_of(num, unit) {
             PeriodAnswer::Period(p) => {
                 let start = Date {
@@ -384,7 +373,12 @@ pub extern "C" fn notes_year_fraction_rolled(
                     month: roll_month,
                     day: roll_day,
                 };
-                let answer = day_count_conv::year_fraction(c, start, end, rolled_from(roll, p));
+                let answer = day_count_conv::year_fraction(
+                    c,
+                    start,
+                    end,
+                    day_count_conv::rolled_from(roll, p),
+                );
                 c_values::hand_fraction(answer, fraction)
             }
             PeriodAnswer::Refused(n) => n,
@@ -508,7 +502,7 @@ pub extern "C" fn notes_check_note(
     coupon_month: u32,
     period_num: i32,
     period_unit: u32,
-    rule: u32,
+    convention: u32,
     adjustment: u32,
     denomination: u32,
     rate: f64,
@@ -516,7 +510,7 @@ pub extern "C" fn notes_check_note(
     c2: u8,
     c3: u8,
 ) -> u32
-    ensures { λ r. ⌜ r ≡ number (andThen (noteOf (noteNumber «number_count» «number_digits») (date «issue_year» «issue_month» «issue_day») (date «maturity_year» «maturity_month» «maturity_day») (coupon «coupon_day» «coupon_month») «period_num» «period_unit» rule adjustment denomination rate (currency c1 c2 c3)) (noteChecks true true)) ⌝ }
+    ensures { λ r. ⌜ r ≡ number (andThen (noteOf (noteNumber «number_count» «number_digits») (date «issue_year» «issue_month» «issue_day») (date «maturity_year» «maturity_month» «maturity_day») (coupon «coupon_day» «coupon_month») «period_num» «period_unit» convention adjustment denomination rate (currency c1 c2 c3)) (noteChecks true true)) ⌝ }
 {
     match c_values::note_of(
         number_count,
@@ -531,7 +525,7 @@ pub extern "C" fn notes_check_note(
         coupon_month,
         period_num,
         period_unit,
-        rule,
+        convention,
         adjustment,
         denomination,
         rate,
@@ -559,7 +553,7 @@ pub extern "C" fn notes_rollout_flows(
     coupon_month: u32,
     period_num: i32,
     period_unit: u32,
-    rule: u32,
+    convention: u32,
     adjustment: u32,
     denomination: u32,
     rate: f64,
@@ -572,7 +566,7 @@ pub extern "C" fn notes_rollout_flows(
     amounts: &mut [f64],
     count: &mut usize,
 ) -> u32
-    ensures { λ r. ⌜ HandsOver (andThen (noteOf (noteNumber «number_count» «number_digits») (date «issue_year» «issue_month» «issue_day») (date «maturity_year» «maturity_month» «maturity_day») (coupon «coupon_day» «coupon_month») «period_num» «period_unit» rule adjustment denomination rate (currency c1 c2 c3)) (λ note. passedAs (flowRooms (now (days .entry)) (now (amounts .entry))) (fitted note position (now (holidays .entry)) (now (days .entry)) (now (amounts .entry))))) r (now (count .entry), now (days .entry), now (amounts .entry)) (now (count .exit), now (days .exit), now (amounts .exit)) ⌝ }
+    ensures { λ r. ⌜ HandsOver (andThen (noteOf (noteNumber «number_count» «number_digits») (date «issue_year» «issue_month» «issue_day») (date «maturity_year» «maturity_month» «maturity_day») (coupon «coupon_day» «coupon_month») «period_num» «period_unit» convention adjustment denomination rate (currency c1 c2 c3)) (λ note. passedAs (flowRooms (now (days .entry)) (now (amounts .entry))) (fitted note position (now (holidays .entry)) (now (days .entry)) (now (amounts .entry))))) r (now (count .entry), now (days .entry), now (amounts .entry)) (now (count .exit), now (days .exit), now (amounts .exit)) ⌝ }
 {
     match c_values::note_of(
         number_count,
@@ -587,7 +581,7 @@ pub extern "C" fn notes_rollout_flows(
         coupon_month,
         period_num,
         period_unit,
-        rule,
+        convention,
         adjustment,
         denomination,
         rate,
@@ -618,7 +612,7 @@ pub extern "C" fn notes_accrued_interest(
     coupon_month: u32,
     period_num: i32,
     period_unit: u32,
-    rule: u32,
+    convention: u32,
     adjustment: u32,
     denomination: u32,
     rate: f64,
@@ -630,7 +624,7 @@ pub extern "C" fn notes_accrued_interest(
     day: u32,
     amount: &mut f64,
 ) -> u32
-    ensures { λ r. ⌜ HandsOver (andThen (noteOf (noteNumber «number_count» «number_digits») (date «issue_year» «issue_month» «issue_day») (date «maturity_year» «maturity_month» «maturity_day») (coupon «coupon_day» «coupon_month») «period_num» «period_unit» rule adjustment denomination rate (currency c1 c2 c3)) (λ note. accrued interest.inBits note (date year month day))) r (now (amount .entry)) (now (amount .exit)) ⌝ }
+    ensures { λ r. ⌜ HandsOver (andThen (noteOf (noteNumber «number_count» «number_digits») (date «issue_year» «issue_month» «issue_day») (date «maturity_year» «maturity_month» «maturity_day») (coupon «coupon_day» «coupon_month») «period_num» «period_unit» convention adjustment denomination rate (currency c1 c2 c3)) (λ note. accrued interest.inBits note (date year month day))) r (now (amount .entry)) (now (amount .exit)) ⌝ }
 {
     match c_values::note_of(
         number_count,
@@ -645,7 +639,7 @@ pub extern "C" fn notes_accrued_interest(
         coupon_month,
         period_num,
         period_unit,
-        rule,
+        convention,
         adjustment,
         denomination,
         rate,
@@ -676,7 +670,7 @@ pub extern "C" fn notes_write_note(
     coupon_month: u32,
     period_num: i32,
     period_unit: u32,
-    rule: u32,
+    convention: u32,
     adjustment: u32,
     denomination: u32,
     rate: f64,
@@ -687,7 +681,7 @@ pub extern "C" fn notes_write_note(
     out: &mut [u8],
     length: &mut usize,
 ) -> u32
-    ensures { λ r. ⌜ HandsOver (andThen (noteOf (noteNumber «number_count» «number_digits») (date «issue_year» «issue_month» «issue_day») (date «maturity_year» «maturity_month» «maturity_day») (coupon «coupon_day» «coupon_month») «period_num» «period_unit» rule adjustment denomination rate (currency c1 c2 c3)) (λ note. andThen (packedNote note (now (holidays .entry))) (textIn (now (out .entry))))) r (now (length .entry), now (out .entry)) (now (length .exit), now (out .exit)) ⌝ }
+    ensures { λ r. ⌜ HandsOver (andThen (noteOf (noteNumber «number_count» «number_digits») (date «issue_year» «issue_month» «issue_day») (date «maturity_year» «maturity_month» «maturity_day») (coupon «coupon_day» «coupon_month») «period_num» «period_unit» convention adjustment denomination rate (currency c1 c2 c3)) (λ note. andThen (packedNote note (now (holidays .entry))) (textIn (now (out .entry))))) r (now (length .entry), now (out .entry)) (now (length .exit), now (out .exit)) ⌝ }
 {
     match c_values::note_of(
         number_count,
@@ -702,7 +696,7 @@ pub extern "C" fn notes_write_note(
         coupon_month,
         period_num,
         period_unit,
-        rule,
+        convention,
         adjustment,
         denomination,
         rate,
@@ -756,7 +750,7 @@ pub extern "C" fn notes_flows_after(
 #[no_mangle]
 pub extern "C" fn notes_discount_factor(
     rate: f64,
-    rule: u32,
+    convention: u32,
     c1: u8,
     c2: u8,
     c3: u8,
@@ -768,9 +762,9 @@ pub extern "C" fn notes_discount_factor(
     pay_day: u32,
     factor: &mut f64,
 ) -> u32
-    ensures { λ r. ⌜ HandsOver (andThen (conventionOf rule) (λ c. discountFactor (flatRate rate c (currency c1 c2 c3)) (date «today_year» «today_month» «today_day») (date «pay_year» «pay_month» «pay_day»))) r (now (factor .entry)) (now (factor .exit)) ⌝ }
+    ensures { λ r. ⌜ HandsOver (andThen (conventionOf convention) (λ c. discountFactor (flatRate rate c (currency c1 c2 c3)) (date «today_year» «today_month» «today_day») (date «pay_year» «pay_month» «pay_day»))) r (now (factor .entry)) (now (factor .exit)) ⌝ }
 {
-    match packed_codes::convention_of_code(rule) {
+    match packed_codes::convention_of_code(convention) {
         ConventionAnswer::Convention(c) => {
             let x = flat_rate(rate, c, c1, c2, c3);
             let today = Date {
@@ -793,7 +787,7 @@ pub extern "C" fn notes_discount_factor(
 #[no_mangle]
 pub extern "C" fn notes_discount_flows(
     rate: f64,
-    rule: u32,
+    convention: u32,
     c1: u8,
     c2: u8,
     c3: u8,
@@ -805,9 +799,9 @@ pub extern "C" fn notes_discount_flows(
     today_day: u32,
     amount: &mut f64,
 ) -> u32
-    ensures { λ r. ⌜ HandsOver (andThen (conventionOf rule) (λ c. discountedStream (flatRate rate c (currency c1 c2 c3)) (date «today_year» «today_month» «today_day») (flowsOf (now (days .entry)) (now (currencies .entry)) (now (amounts .entry))))) r (now (amount .entry)) (now (amount .exit)) ⌝ }
+    ensures { λ r. ⌜ HandsOver (andThen (conventionOf convention) (λ c. discountedStream (flatRate rate c (currency c1 c2 c3)) (date «today_year» «today_month» «today_day») (flowsOf (now (days .entry)) (now (currencies .entry)) (now (amounts .entry))))) r (now (amount .entry)) (now (amount .exit)) ⌝ }
 {
-    match packed_codes::convention_of_code(rule) {
+    match packed_codes::convention_of_code(convention) {
         ConventionAnswer::Convention(c) => {
             let x = flat_rate(rate, c, c1, c2, c3);
             let today = Date {

@@ -1,4 +1,4 @@
--- The desk card's steps, and the ends of the signed numbers, as theorems about the definitions.
+-- Fifteen months back, and the ends of the signed numbers, as theorems about the definitions; the desk card's steps stand in `desk_card`.
 use Prim.Native.Nat.{ℕ}
 use mathlib.Core.Path.{_≡_, refl, ap, _∙_}
 use lib.IntN.{ℤ, pos, negsuc, _+ℤ_}
@@ -12,18 +12,10 @@ use Rattle.calendar.proofs.dates.Inverse.{date-at}
 use Rattle.date_step.specs.Steps.{fromZeroTo, monthsLater, addMonths, existingDate, yearsLater, addYears, daysLater, addDays}
 use Rattle.calendar.proofs.dates.Examples.{on}
 
--- each of the desk card's by its letter; and -15M
-pub record Card : Type 0 where
-  pub a : addMonths (on 2024 2 29) (pos 12) ≡ given (on 2025 2 28)
-  pub b : addYears (on 2024 2 29) (pos 1) ≡ refused 1
-  pub c : addMonths (on 2021 1 31) (pos 1) ≡ given (on 2021 2 28)
-  pub d : addMonths (on 2021 2 28) (negsuc 0) ≡ given (on 2021 1 28)
-  pub f : addMonths (on 9999 12 1) (pos 1) ≡ refused 1
-  pub fifteen-back : addMonths (on 2021 3 15) (negsuc 14) ≡ given (on 2019 12 15)
-
-pub card : Card
-unfolding leap lengthIn monthLength isDate monthDate fromZeroTo monthsLater addMonths existingDate yearsLater addYears
-card = record { a = refl; b = refl; c = refl; d = refl; f = refl; fifteen-back = refl }
+-- 2021-03-15 -15M
+pub fifteen-back : addMonths (on 2021 3 15) (negsuc 14) ≡ given (on 2019 12 15)
+unfolding leap lengthIn monthLength isDate monthDate fromZeroTo monthsLater addMonths
+fifteen-back = refl
 
 -- so many days later, from a serial day
 abbrev pub onFrom : ℤ → ℕ → Outcome Date

@@ -7,7 +7,7 @@ ghost use Rattle.calendar.specs.dates.Dates.{isDate, dayNumber};
 ghost use Rattle.day_fraction.specs.Fractions.{Span, impossible};
 ghost use Rattle.day_fraction.specs.declared.SimpleRule.the-variants as simple;
 ghost use Rattle.day_count_conv.specs.conventions.Whole.{wholePeriod};
-ghost use Rattle.day_count_conv.specs.conventions.Conventions.{fractionOutcome, fractionsInF64, partAdded, partsBits, walkedFraction, frequentFraction, icmaFraction, rollDateExists};
+ghost use Rattle.day_count_conv.specs.conventions.Conventions.{fractionOutcome, fractionsInF64, partAdded, partsBits, walkedFraction, frequentFraction, icmaFraction, rollDateExists, noTerms, rolledFrom};
 use calendar::Date;
 use icma::Broken;
 use icma::Parts;
@@ -40,10 +40,28 @@ pub enum RollPeriod {
     Absent,
 }
 
-// What only some rules ask for; the others ignore it.
+// What only some conventions ask for beside two dates; the others ignore it.
 pub struct NoteTerms {
     pub roll: RollDate,
     pub period: RollPeriod,
+}
+
+// Inner: the terms of two dates alone, no roll date and no period; terms are made here only.
+pub fn no_terms() -> NoteTerms
+    ensures { λ r. ⌜ r ≡ noTerms ⌝ }
+{
+    let roll = RollDate::Absent;
+    let period = RollPeriod::Absent;
+    NoteTerms { roll, period }
+}
+
+// Inner: the terms of a period that rolls from a date.
+pub fn rolled_from(t: Date, p: TimePeriod) -> NoteTerms
+    ensures { λ r. ⌜ r ≡ rolledFrom t p ⌝ }
+{
+    let roll = RollDate::Date(t);
+    let period = RollPeriod::Period(p);
+    NoteTerms { roll, period }
 }
 
 pub enum ConventionAnswer {

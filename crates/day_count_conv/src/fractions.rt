@@ -1,6 +1,6 @@
 // Year fractions of any dates: the dates are judged, and then the rule is put.
 ghost use mathlib.Core.Path.{_≡_};
-ghost use Rattle.day_count_conv.specs.conventions.Conventions.{none, rollDated, FractionPromise};
+ghost use Rattle.day_count_conv.specs.conventions.Conventions.{noTerms, rollDated, FractionPromise};
 use crate::conventions::DayCountConv;
 use crate::conventions::NoteTerms;
 use crate::conventions::RollDate;
@@ -8,11 +8,11 @@ use crate::conventions::YearFraction;
 use calendar::Date;
 
 // Whether a roll date that is given exists; only ICMA looks at it.
-fn roll_dated(rule: DayCountConv, x: NoteTerms) -> bool
-    ensures { λ r. ⌜ r ≡ rollDated rule (x .roll) ⌝ }
+fn roll_dated(convention: DayCountConv, x: NoteTerms) -> bool
+    ensures { λ r. ⌜ r ≡ rollDated convention (x .roll) ⌝ }
 {
     let roll_date = x.roll;
-    match rule {
+    match convention {
         DayCountConv::ActActICMA => match roll_date {
             RollDate::Date(t) => calendar::is_date(t),
             RollDate::Absent => true,
@@ -26,8 +26,8 @@ fn roll_dated(rule: DayCountConv, x: NoteTerms) -> bool
 }
 
 // The year fraction from start to end.
-pub fn year_fraction(rule: DayCountConv, start: Date, end: Date, x: NoteTerms) -> YearFraction
-    ensures { λ r. ⌜ FractionPromise rule start end x r ⌝ }
+pub fn year_fraction(convention: DayCountConv, start: Date, end: Date, x: NoteTerms) -> YearFraction
+    ensures { λ r. ⌜ FractionPromise convention start end x r ⌝ }
 {
     if !calendar::is_date(start) {
         return YearFraction::Refused(outcome::INVALID_DATE);
@@ -35,18 +35,18 @@ pub fn year_fraction(rule: DayCountConv, start: Date, end: Date, x: NoteTerms) -
     if !calendar::is_date(end) {
         return YearFraction::Refused(outcome::INVALID_DATE);
     }
-    if !roll_dated(rule, x) {
+    if !roll_dated(convention, x) {
         return YearFraction::Refused(outcome::INVALID_DATE);
     }
     if calendar::is_before(end, start) {
         return YearFraction::Refused(outcome::START_AFTER_END);
     }
-    crate::judged::fraction_judged(rule, start, end, x)
+    crate::judged::fraction_judged(convention, start, end, x)
 }
 
 // Inner: the same with no roll date and no period, for `c_face`. Its one caller takes it in whole, which is why the rules stand here once more.
-pub fn fraction_between(rule: DayCountConv, from: Date, to: Date) -> YearFraction
-    ensures { λ r. ⌜ FractionPromise rule from to none r ⌝ }
+pub fn fraction_between(convention: DayCountConv, from: Date, to: Date) -> YearFraction
+    ensures { λ r. ⌜ FractionPromise convention from to noTerms r ⌝ }
 {
     if !calendar::is_date(from) {
         return YearFraction::Refused(outcome::INVALID_DATE);
@@ -57,7 +57,7 @@ pub fn fraction_between(rule: DayCountConv, from: Date, to: Date) -> YearFractio
     if calendar::is_before(to, from) {
         return YearFraction::Refused(outcome::START_AFTER_END);
     }
-    match rule {
+    match convention {
         DayCountConv::Act365 => YearFraction::Fraction(day_fraction::calc_act_365(from, to)),
         DayCountConv::Act360 => YearFraction::Fraction(day_fraction::calc_act_360(from, to)),
         DayCountConv::Act365l => YearFraction::Fraction(day_fraction::calc_act_365_leap(from, to)),

@@ -7,18 +7,21 @@ ghost use Rattle.icma.specs.parts.Walk.{step};
 ghost use Rattle.day_count_conv.specs.conventions.Conventions.{fractionOutcome, fractionsInF64, rolledFrom, byRule, rollDated};
 use crate::conventions::DayCountConv;
 use crate::conventions::NoteTerms;
-use crate::conventions::RollDate;
-use crate::conventions::RollPeriod;
 use crate::conventions::YearFraction;
 use calendar::Date;
 use time_period::TimePeriod;
 
 // Inner: of dates already judged, the start not after the end, so that a rollout does not judge its own dates.
-pub fn fraction_judged(rule: DayCountConv, start: Date, end: Date, x: NoteTerms) -> YearFraction
-    requires { ⌜ (Span start end) × (rollDated rule (x .roll) ≡ true) ⌝ }
-    ensures { λ r. ⌜ fractionOutcome r ≡ byRule fractionsInF64 rule start end x ⌝ }
+pub fn fraction_judged(
+    convention: DayCountConv,
+    start: Date,
+    end: Date,
+    x: NoteTerms,
+) -> YearFraction
+    requires { ⌜ (Span start end) × (rollDated convention (x .roll) ≡ true) ⌝ }
+    ensures { λ r. ⌜ fractionOutcome r ≡ byRule fractionsInF64 convention start end x ⌝ }
 {
-    match rule {
+    match convention {
         DayCountConv::Act365 => YearFraction::Fraction(day_fraction::calc_act_365(start, end)),
         DayCountConv::Act360 => YearFraction::Fraction(day_fraction::calc_act_360(start, end)),
         DayCountConv::Act365l => YearFraction::Fraction(day_fraction::calc_act_365_leap(
@@ -40,14 +43,22 @@ pub fn fraction_judged(rule: DayCountConv, start: Date, end: Date, x: NoteTerms)
 }
 
 // Inner: of a period from a date to the one that it leads to, rolled from its start, so that a rollout steps once.
-pub fn fraction_of_period(rule: DayCountConv, p: TimePeriod, from: Date, to: Date) -> YearFraction
+pub fn fraction_of_period(
+    convention: DayCountConv,
+    p: TimePeriod,
+    from: Date,
+    to: Date,
+) -> YearFraction
     requires { ⌜ (Span from to) × (step p from ≡ given to) ⌝ }
-    ensures { λ r. ⌜ fractionOutcome r ≡ byRule fractionsInF64 rule from to (rolledFrom from p) ⌝ }
+    ensures { λ r. ⌜ fractionOutcome r ≡ byRule fractionsInF64 convention from to (rolledFrom from p) ⌝ }
 {
-    if let DayCountConv::ActActICMA = rule {
+    if let DayCountConv::ActActICMA = convention {
         return crate::conventions::whole_period(p);
     }
-    let roll = RollDate::Date(from);
-    let period = RollPeriod::Period(p);
-    fraction_judged(rule, from, to, NoteTerms { roll, period })
+    fraction_judged(
+        convention,
+        from,
+        to,
+        crate::conventions::rolled_from(from, p),
+    )
 }

@@ -12,6 +12,8 @@ pub use conventions::YearFraction;
 pub use fractions::year_fraction;
 
 // Inner: for the crates of the register, which have judged what these ask for.
+pub use conventions::no_terms;
+pub use conventions::rolled_from;
 pub use fractions::fraction_between;
 pub use judged::fraction_judged;
 pub use judged::fraction_of_period;

@@ -308,21 +308,17 @@ fn ask_fraction(
     want: f64,
     number: u32,
 ) -> Tally {
-    let x = NoteTerms {
-        roll: RollDate::Absent,
-        period: RollPeriod::Absent,
-    };
     print_row(row);
     print_rule(rule);
-    ask_between(c, rule, start, end, x, want, number)
-}
-
-// What ICMA asks for.
-fn rolled(p: TimePeriod, t: Date) -> NoteTerms {
-    NoteTerms {
-        roll: RollDate::Date(t),
-        period: RollPeriod::Period(p),
-    }
+    ask_between(
+        c,
+        rule,
+        start,
+        end,
+        day_count_conv::no_terms(),
+        want,
+        number,
+    )
 }
 
 // ICMA, rolled from a date by months.
@@ -349,7 +345,7 @@ fn ask_icma(
         DayCountConv::ActActICMA,
         start,
         end,
-        rolled(p, t),
+        day_count_conv::rolled_from(t, p),
         want,
         number,
     )

@@ -30,7 +30,7 @@ pub enum Step {
 // A step, and the place of its date among the holidays.
 pub(crate) struct HintedStep {
     pub step: Step,
-    pub near: usize,
+    pub hint: usize,
 }
 
 // The serial day of a date, of which another's is known: a date that did not move keeps its day.
@@ -46,13 +46,13 @@ fn day_from(u: Date, t: Date, n: u32) -> u32
 }
 
 // An amount on the adjusted date.
-fn pay(note: Note, table: &[u32], near: usize, t: Date, amount: f64, next: Due) -> HintedStep
+fn pay(note: Note, table: &[u32], hint: usize, t: Date, amount: f64, next: Due) -> HintedStep
     requires { ⌜ (isDate t ≡ true) × (ascending (now table) ≡ true) ⌝ }
     ensures { λ r. ⌜ r .step ≡ stepOf (paid note (now (table .entry)) t amount) next ⌝ }
 {
     let rule = note.business_day_rule;
     let n = calendar::day_of_date(t);
-    let i = business_days::lower_bound_from(table, n, near);
+    let i = business_days::lower_bound_from(table, n, hint);
     match day_adjust::adjust_at(rule, t, n, table, i) {
         DateAnswer::Date(u) => {
             let currency = note.currency;
@@ -63,29 +63,29 @@ fn pay(note: Note, table: &[u32], near: usize, t: Date, amount: f64, next: Due) 
             };
             let day = day_from(u, t, n);
             let step = Step::Pay(day, flow, next);
-            HintedStep { step, near: i }
+            HintedStep { step, hint: i }
         }
         DateAnswer::Refused(k) => {
             let step = Step::Stop(k);
-            HintedStep { step, near: i }
+            HintedStep { step, hint: i }
         }
     }
 }
 
 // One step of a note, a position and a table already judged, from a place of the table that may be near its date's.
-fn next_flow_near(note: Note, position: f64, table: &[u32], near: usize, due: Due) -> HintedStep
+fn next_flow_near(note: Note, position: f64, table: &[u32], hint: usize, due: Due) -> HintedStep
     requires { ⌜ (JudgedNote note position (now table)) × (Dated due) ⌝ }
     ensures { λ r. ⌜ Turned note position (now (table .entry)) due (r .step) ⌝ }
 {
     match crate::schedule::payment_for(note, position, crate::schedule::next_event(note, due)) {
-        Payment::Pay(t, amount, next) => pay(note, table, near, t, amount, next),
+        Payment::Pay(t, amount, next) => pay(note, table, hint, t, amount, next),
         Payment::Stop(k) => {
             let step = Step::Stop(k);
-            HintedStep { step, near }
+            HintedStep { step, hint }
         }
         Payment::End => {
             let step = Step::End;
-            HintedStep { step, near }
+            HintedStep { step, hint }
         }
     }
 }
@@ -129,11 +129,11 @@ pub fn collect(
     ensures { λ _. ⌜ Kept note position (now (table .entry)) (now (days .entry)) (now (amounts .entry)) (now (days .exit)) (now (amounts .exit)) ⌝ }
 {
     let mut k: usize = 0;
-    let mut near = business_days::NOWHERE;
+    let mut hint = business_days::NOWHERE;
     let mut due = Due::First;
     loop {
-        let taken = next_flow_near(note, position, table, near, due);
-        near = taken.near;
+        let taken = next_flow_near(note, position, table, hint, due);
+        hint = taken.hint;
         let step = taken.step;
         match step {
             Step::Pay(day, flow, next) => {

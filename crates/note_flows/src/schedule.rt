@@ -10,9 +10,6 @@ ghost use Rattle.note_flows.specs.schedule.Schedule.{Dated, firstEvent, 
 use bond::Note;
 use calendar::Date;
 use calendar::DateAnswer;
-use day_count_conv::NoteTerms;
-use day_count_conv::RollDate;
-use day_count_conv::RollPeriod;
 use day_count_conv::YearFraction;
 
 // What is due: the first coupon, what follows a coupon that ended on a date, or nothing more.
@@ -80,13 +77,10 @@ fn first_fraction(note: Note, start: Date, end: Date) -> YearFraction
     requires { ⌜ Span start end ⌝ }
     ensures { λ r. ⌜ fractionOutcome r ≡ couponFraction note start end end ⌝ }
 {
-    let rule = note.day_count_convention;
+    let convention = note.day_count_convention;
     let period = note.period;
-    let extras = NoteTerms {
-        roll: RollDate::Date(end),
-        period: RollPeriod::Period(period),
-    };
-    day_count_conv::fraction_judged(rule, start, end, extras)
+    let terms = day_count_conv::rolled_from(end, period);
+    day_count_conv::fraction_judged(convention, start, end, terms)
 }
 
 // A later one rolls from its start, and is one period long.
@@ -94,9 +88,9 @@ fn later_fraction(note: Note, start: Date, end: Date) -> YearFraction
     requires { ⌜ (Span start end) × (stepped (note .period) absent start ≡ given end) ⌝ }
     ensures { λ r. ⌜ fractionOutcome r ≡ couponFraction note start end start ⌝ }
 {
-    let rule = note.day_count_convention;
+    let convention = note.day_count_convention;
     let period = note.period;
-    day_count_conv::fraction_of_period(rule, period, start, end)
+    day_count_conv::fraction_of_period(convention, period, start, end)
 }
 
 // A coupon's amount on its end, and what follows it.

@@ -45,10 +45,10 @@ fn entry(s: &[u32], i: usize) -> u32
 }
 
 // The days of a rule's year where it counts days, and 0 where it does not.
-fn year_days(rule: DayCountConv) -> u32
-    ensures { λ r. ⌜ r ≡ yearDays rule ⌝ }
+fn year_days(convention: DayCountConv) -> u32
+    ensures { λ r. ⌜ r ≡ yearDays convention ⌝ }
 {
-    match rule {
+    match convention {
         DayCountConv::Act365 => 365,
         DayCountConv::Act360 => 360,
         DayCountConv::Act365l => 0,
@@ -62,8 +62,8 @@ fn year_days(rule: DayCountConv) -> u32
 fn counted_from(rate: FlatRate, today: Date) -> u32
     ensures { λ r. ⌜ r ≡ countedFrom rate today ⌝ }
 {
-    let rule = rate.day_count_conv;
-    if year_days(rule) < 1 {
+    let convention = rate.day_count_conv;
+    if year_days(convention) < 1 {
         return NO_DAY;
     }
     if !cash_flow::is_currency(rate.currency) {
@@ -122,8 +122,8 @@ fn added_at(
             sum,
         );
     }
-    let rule = rate.day_count_conv;
-    let yf = (day - from) as f64 / year_days(rule) as f64;
+    let convention = rate.day_count_conv;
+    let yf = (day - from) as f64 / year_days(convention) as f64;
     AmountAnswer::Amount(sum + crate::factors::simple_factor(rate.rate, yf) * amount)
 }
 

@@ -11,9 +11,6 @@ use cash_flow::AmountAnswer;
 use cash_flow::CashFlow;
 use cash_flow::Currency;
 use day_count_conv::DayCountConv;
-use day_count_conv::NoteTerms;
-use day_count_conv::RollDate;
-use day_count_conv::RollPeriod;
 use day_count_conv::YearFraction;
 
 // finql's `FlatRate` with `Compounding::Simple`, the one compounding that is carried over.
@@ -29,12 +26,10 @@ pub enum FactorAnswer {
 }
 
 // The year fraction, with no roll date and no period.
-fn fraction_to(rule: DayCountConv, today: Date, pay_date: Date) -> YearFraction
-    ensures { λ r. ⌜ fractionOutcome r ≡ fractionTo rule today «pay_date» ⌝ }
+fn fraction_to(convention: DayCountConv, today: Date, pay_date: Date) -> YearFraction
+    ensures { λ r. ⌜ fractionOutcome r ≡ fractionTo convention today «pay_date» ⌝ }
 {
-    let roll = RollDate::Absent;
-    let period = RollPeriod::Absent;
-    day_count_conv::year_fraction(rule, today, pay_date, NoteTerms { roll, period })
+    day_count_conv::year_fraction(convention, today, pay_date, day_count_conv::no_terms())
 }
 
 // The factor that discounts a payment at `pay_date` to `today`.
@@ -44,8 +39,8 @@ pub fn discount_factor(rate: FlatRate, today: Date, pay_date: Date) -> FactorAns
     if !is_discount_rate(rate.rate) {
         return FactorAnswer::Refused(outcome::NUMBER_OUT_OF_LIMITS);
     }
-    let rule = rate.day_count_conv;
-    match fraction_to(rule, today, pay_date) {
+    let convention = rate.day_count_conv;
+    match fraction_to(convention, today, pay_date) {
         YearFraction::Fraction(yf) => FactorAnswer::Factor(simple_factor(rate.rate, yf)),
         YearFraction::Refused(n) => FactorAnswer::Refused(n),
     }
@@ -74,8 +69,8 @@ fn flow_value(rate: FlatRate, flow: CashFlow, today: Date) -> AmountAnswer
     if !is_one_currency(rate.currency, flow.currency) {
         return AmountAnswer::Refused(outcome::BAD_CURRENCY);
     }
-    let rule = rate.day_count_conv;
-    match fraction_to(rule, today, flow.date) {
+    let convention = rate.day_count_conv;
+    match fraction_to(convention, today, flow.date) {
         YearFraction::Fraction(yf) => AmountAnswer::Amount(
             simple_factor(rate.rate, yf) * flow.amount,
         ),

@@ -22,9 +22,10 @@ use Rattle.day_count_conv.specs.declared.conventions.DayCountConv.the-variants 
 use Rattle.day_adjust.specs.declared.DayAdjust.the-variants as rule
 use Rattle.cash_flow.specs.currency.Amounts.{isCapital, isCurrency}
 use Rattle.bond.specs.note.Notes.{isNoteNumber, isCouponRate, periodChecks, termChecks, noteChecks, inYearOf, firstCouponEnd}
+use Rattle.bond.specs.note.Example.{exampleNote}
 use Rattle.bond.specs.declared.note.Note.{Note}
 use Rattle.calendar.proofs.dates.Examples.{on}
-use Rattle.bond.proofs.note.Examples.{every, numbered, euro, listed}
+use Rattle.bond.proofs.note.Examples.{every, numbered, euro}
 use Rattle.accrued_interest.specs.note.Accrued.{nextPeriod, goesOn, periodHolding, amountDue, accruedIn, accruedFrom, accruedOn, accrued, amountsInF64, amountsExactly}
 use Rattle.coupon_date.proofs.Examples.{on as dayMonth}
 use Rattle.day_fraction.proofs.Examples.{fraction as over}
@@ -64,11 +65,11 @@ atTheEnd = noteOf four (on 9999 12 1) (on 9999 12 31) (dayMonth 15 7) (pos 6) co
 abbrev unrated : Note
 unrated = noteOf nan (on 2021 1 15) (on 2022 1 15) (dayMonth 15 7) (pos 6) conv.D30E360
 
--- m: accrued on the listed note, 2021-04-15: 1000 x 4 / 100 x 180/360 x 90/181
+-- m: accrued on the exampleNote note, 2021-04-15: 1000 x 4 / 100 x 180/360 x 90/181
 pub record Card : Type 0 where
-  pub m : accrued amountsExactly listed (on 2021 4 15) ≡ given (over (pos 64800000) 6516000)
+  pub m : accrued amountsExactly exampleNote (on 2021 4 15) ≡ given (over (pos 64800000) 6516000)
   pub reduced : 64800000 * 181 ≡ 1800 * 6516000
-  pub m-bits : accrued amountsInF64 listed (on 2021 4 15) ≡ given (ofBits binary64 0x4023e3b673fa57b1)
+  pub m-bits : accrued amountsInF64 exampleNote (on 2021 4 15) ≡ given (ofBits binary64 0x4023e3b673fa57b1)
 
 pub card : Card
 unfolding isNoteNumber isCouponRate isCapital isCurrency leap lengthIn monthLength yearLength daysBefore isDate isBefore isSame dayNumber couponDate existingDate periodChecks termChecks noteChecks inYearOf firstCouponEnd exactFraction bits impossible simpleFraction yearFraction nextPeriod goesOn walked periodHolding amountDue accruedIn accruedFrom accruedOn accrued add mul div ofInt ofBits
@@ -79,8 +80,8 @@ pub record Zeros : Type 0 where
   pub before-issue : accrued amountsExactly long (on 2021 1 14) ≡ given (over (pos 0) 1)
   pub before-issue-bits : accrued amountsInF64 long (on 2021 1 14) ≡ given (ofBits binary64 0)
   pub on-issue : accrued amountsExactly long (on 2021 1 15) ≡ given (over (pos 0) 6516000)
-  pub last-period : accrued amountsExactly listed (on 2021 7 16) ≡ given (over (pos 0) 1)
-  pub past-the-last : accrued amountsExactly listed (on 2030 1 1) ≡ given (over (pos 0) 1)
+  pub last-period : accrued amountsExactly exampleNote (on 2021 7 16) ≡ given (over (pos 0) 1)
+  pub past-the-last : accrued amountsExactly exampleNote (on 2030 1 1) ≡ given (over (pos 0) 1)
   pub zero-before-fraction : accrued amountsExactly twoMonths (on 2021 1 14) ≡ given (over (pos 0) 1)
   pub fraction-on-issue : accrued amountsExactly twoMonths (on 2021 1 15) ≡ refused 5
   pub zero-before-walk : accrued amountsExactly atTheEnd (on 9999 11 30) ≡ given (over (pos 0) 1)

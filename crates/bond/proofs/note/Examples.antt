@@ -20,6 +20,7 @@ use Rattle.cash_flow.specs.currency.Amounts.{isCapital, isCurrency}
 use Rattle.cash_flow.specs.declared.currency.Currency.{Currency}
 use Rattle.bond.specs.limits.Limits.{isNoteNumber, isCouponRate}
 use Rattle.bond.specs.note.Notes.{isPosition, periodChecks, termChecks, noteChecks, inYearOf, firstCouponEnd}
+use Rattle.bond.specs.note.Example.{exampleNote}
 use Rattle.bond.specs.declared.limits.NoteNumber.{NoteNumber}
 use Rattle.bond.specs.declared.note.Note.{Note}
 use Rattle.calendar.proofs.dates.Examples.{on}
@@ -33,43 +34,27 @@ numbered n d = record { count = n; digits = d }
 abbrev pub euro : Currency
 euro = record { first = 69; second = 85; third = 82 }
 
--- a 4 percent note of 1000 EUR, issued 2021-01-15, coupon 15.07, 6M, 30E/360, modified, maturing 2022-01-15; 4 is 1 * 2^2
-abbrev pub listed : Note
-listed =
-    record {
-      number = numbered 5 417;
-      «issue_date» = on 2021 1 15;
-      maturity = on 2022 1 15;
-      «coupon_date» = record { day = 15; month = 7 };
-      period = every (pos 6) unit.Monthly;
-      «day_count_convention» = conv.D30E360;
-      «business_day_rule» = rule.Modified;
-      denomination = 1000;
-      rate = fin false 1 (pos 2);
-      currency = euro;
-    }
-
 -- that note with one field changed
 abbrev withNumber : NoteNumber → Note
-withNumber n = record { number = n; «issue_date» = listed .«issue_date»; maturity = listed .maturity; «coupon_date» = listed .«coupon_date»; period = listed .period; «day_count_convention» = listed .«day_count_convention»; «business_day_rule» = listed .«business_day_rule»; denomination = listed .denomination; rate = listed .rate; currency = listed .currency }
+withNumber n = record { number = n; «issue_date» = exampleNote .«issue_date»; maturity = exampleNote .maturity; «coupon_date» = exampleNote .«coupon_date»; period = exampleNote .period; «day_count_convention» = exampleNote .«day_count_convention»; «business_day_rule» = exampleNote .«business_day_rule»; denomination = exampleNote .denomination; rate = exampleNote .rate; currency = exampleNote .currency }
 
 abbrev withRate : Float → Note
-withRate r = record { number = listed .number; «issue_date» = listed .«issue_date»; maturity = listed .maturity; «coupon_date» = listed .«coupon_date»; period = listed .period; «day_count_convention» = listed .«day_count_convention»; «business_day_rule» = listed .«business_day_rule»; denomination = listed .denomination; rate = r; currency = listed .currency }
+withRate r = record { number = exampleNote .number; «issue_date» = exampleNote .«issue_date»; maturity = exampleNote .maturity; «coupon_date» = exampleNote .«coupon_date»; period = exampleNote .period; «day_count_convention» = exampleNote .«day_count_convention»; «business_day_rule» = exampleNote .«business_day_rule»; denomination = exampleNote .denomination; rate = r; currency = exampleNote .currency }
 
 abbrev withTerms : Currency → Date → CouponDate → TimePeriod → Note
-withTerms c issue coupon p = record { number = listed .number; «issue_date» = issue; maturity = listed .maturity; «coupon_date» = coupon; period = p; «day_count_convention» = listed .«day_count_convention»; «business_day_rule» = listed .«business_day_rule»; denomination = listed .denomination; rate = listed .rate; currency = c }
+withTerms c issue coupon p = record { number = exampleNote .number; «issue_date» = issue; maturity = exampleNote .maturity; «coupon_date» = coupon; period = p; «day_count_convention» = exampleNote .«day_count_convention»; «business_day_rule» = exampleNote .«business_day_rule»; denomination = exampleNote .denomination; rate = exampleNote .rate; currency = c }
 
 abbrev july : CouponDate
 july = record { day = 15; month = 7 }
 
 -- its checks; each refusal stands before those that the same note would meet later
 pub record Checks : Type 0 where
-  pub accepted : noteChecks true true listed ≡ given listed
+  pub accepted : noteChecks true true exampleNote ≡ given exampleNote
   pub no-digits : noteChecks false false (withNumber (numbered 0 0)) ≡ refused 18
   pub eleven-digits : noteChecks true true (withNumber (numbered 11 1)) ≡ refused 18
   pub too-many : noteChecks true true (withNumber (numbered 3 1000)) ≡ refused 18
   pub ten-digits : noteChecks true true (withNumber (numbered 10 9999999999)) ≡ given (withNumber (numbered 10 9999999999))
-  pub position : noteChecks false false listed ≡ refused 15
+  pub position : noteChecks false false exampleNote ≡ refused 15
   pub currency : noteChecks true false (withTerms (record { first = 69; second = 85; third = 91 }) (on 2021 2 29) july (every (pos 0) unit.Monthly)) ≡ refused 17
   pub issue : noteChecks true false (withTerms euro (on 2021 2 29) (record { day = 0; month = 7 }) (every (pos 0) unit.Monthly)) ≡ refused 1
   pub coupon-range : noteChecks true false (withTerms euro (on 2021 1 15) (record { day = 0; month = 7 }) (every (pos 0) unit.Monthly)) ≡ refused 7
@@ -138,7 +123,7 @@ limits =
 
 -- the first coupon ends in the issue year only if its month is after the issue's
 pub record FirstEnds : Type 0 where
-  pub same-year : firstCouponEnd listed ≡ given (on 2021 7 15)
+  pub same-year : firstCouponEnd exampleNote ≡ given (on 2021 7 15)
   pub same-month : firstCouponEnd (withTerms euro (on 2021 7 1) july (every (pos 6) unit.Monthly)) ≡ given (on 2022 7 15)
   pub last-year : firstCouponEnd (withTerms euro (on 9999 7 1) july (every (pos 6) unit.Monthly)) ≡ refused 1
   pub last-july : firstCouponEnd (withTerms euro (on 9999 6 30) july (every (pos 6) unit.Monthly)) ≡ given (on 9999 7 15)

@@ -122,8 +122,8 @@ byRule v conv.D30E360 start end x = simpleFraction v simple.D30E360 start end
 byRule v conv.ActActICMA start end x = icmaFraction v (x .roll) (x .period) start end
 
 -- neither a roll date nor a period
-abbrev pub none : NoteTerms
-none = record { roll = roll-date.Absent; period = roll-period.Absent }
+abbrev pub noTerms : NoteTerms
+noTerms = record { roll = roll-date.Absent; period = roll-period.Absent }
 
 -- a period that rolls from a date
 abbrev pub rolledFrom : Date → TimePeriod → NoteTerms

@@ -19,7 +19,7 @@ use Rattle.cash_flow.specs.declared.currency.Currency.{Currency}
 use Rattle.cash_flow.specs.flow.Flows.{noDate, dateOn}
 use Rattle.day_fraction.specs.Fractions.{Span, quotient, days, bits, impossible}
 use Rattle.day_fraction.proofs.Differences.{diff-of, diff-pos}
-use Rattle.day_count_conv.specs.conventions.Conventions.{fractionsInF64, none, simpleFraction}
+use Rattle.day_count_conv.specs.conventions.Conventions.{fractionsInF64, noTerms, simpleFraction}
 use Rattle.day_count_conv.specs.declared.conventions.DayCountConv.{DayCountConv}
 use Rattle.day_count_conv.specs.declared.conventions.DayCountConv.the-variants as conv
 use Rattle.day_count_conv.proofs.conventions.Judged.{span-fraction}
@@ -49,8 +49,8 @@ date-on n h k = ap (value noDate) (sym (date-on-day (record { 0 = n }) h k))
 
 days-over : (rule : DayCountConv) (s e : Date) → 1 ≤ yearDays rule → Span s e → fractionTo rule s e ≡ given (quotient (days s e) (yearDays rule))
 unfolding fractionTo simpleFraction impossible bits
-days-over conv.Act365 s e h p = span-fraction fractionsInF64 conv.Act365 s e none p refl
-days-over conv.Act360 s e h p = span-fraction fractionsInF64 conv.Act360 s e none p refl
+days-over conv.Act365 s e h p = span-fraction fractionsInF64 conv.Act365 s e noTerms p refl
+days-over conv.Act360 s e h p = span-fraction fractionsInF64 conv.Act360 s e noTerms p refl
 days-over conv.Act365l s e h p = absurd (omega arith)
 days-over conv.D30_360 s e h p = absurd (omega arith)
 days-over conv.D30E360 s e h p = absurd (omega arith)

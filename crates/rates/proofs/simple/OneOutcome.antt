@@ -12,7 +12,7 @@ use Rattle.cash_flow.specs.declared.currency.AmountAnswer.{AmountAnswer}
 use Rattle.cash_flow.proofs.currency.OneOutcome.{same-amount-answer}
 use Rattle.cash_flow.specs.declared.flow.CashFlow.{CashFlow}
 use Rattle.day_fraction.specs.Fractions.{whole}
-use Rattle.day_count_conv.specs.conventions.Conventions.{fractionsInF64, none}
+use Rattle.day_count_conv.specs.conventions.Conventions.{fractionsInF64, noTerms}
 use Rattle.day_count_conv.specs.declared.conventions.DayCountConv.{DayCountConv}
 use Rattle.day_count_conv.proofs.conventions.OneOutcome.{fraction-numbered}
 use Rattle.rates.specs.factors.Factors.{isDiscountRate, factorOf}
@@ -38,7 +38,7 @@ module _ (rate : FlatRate) (today : Date) where
 -- every refusal has its number
 to-numbered : (rule : DayCountConv) (today t : Date) → Numbered (fractionTo rule today t)
 unfolding fractionTo
-to-numbered rule today t = fraction-numbered fractionsInF64 today t rule none
+to-numbered rule today t = fraction-numbered fractionsInF64 today t rule noTerms
 
 module _ (rate : FlatRate) (today : Date) where
   pub factor-numbered : (t : Date) → Numbered (discountFactor rate today t)

@@ -12,7 +12,7 @@ use Rattle.cash_flow.specs.declared.currency.AmountAnswer.{AmountAnswer}
 use Rattle.cash_flow.specs.declared.currency.Currency.{Currency}
 use Rattle.cash_flow.specs.declared.flow.CashFlow.{CashFlow}
 use Rattle.day_fraction.specs.Fractions.{whole}
-use Rattle.day_count_conv.specs.conventions.Conventions.{yearFraction, fractionsInF64, none}
+use Rattle.day_count_conv.specs.conventions.Conventions.{yearFraction, fractionsInF64, noTerms}
 use Rattle.day_count_conv.specs.declared.conventions.DayCountConv.{DayCountConv}
 use Rattle.rates.specs.factors.Factors.{isDiscountRate, factorOf}
 use Rattle.rates.specs.declared.simple.FlatRate.{FlatRate}
@@ -29,7 +29,7 @@ factorOutcome (factor-answer.Refused n) = refused n
 
 -- the fraction from today to the payment date; no roll date and no period are given, so ICMA is refused 10
 unfoldable pub fractionTo : DayCountConv → Date → Date → Outcome Float
-fractionTo rule today t = yearFraction fractionsInF64 rule today t none
+fractionTo rule today t = yearFraction fractionsInF64 rule today t noTerms
 
 -- 15 for the rate, then the fraction's refusals
 unfoldable pub discountFactor : FlatRate → Date → Date → Outcome Float

@@ -23,6 +23,7 @@ use Rattle.coupon_date.specs.Coupons.{couponDate}
 use Rattle.cash_flow.specs.currency.Amounts.{isCapital, isCurrency}
 use Rattle.cash_flow.specs.declared.flow.CashFlow.{CashFlow}
 use Rattle.bond.specs.note.Notes.{isNoteNumber, isCouponRate, isPosition, periodChecks, termChecks, noteChecks, inYearOf, firstCouponEnd, couponAmount}
+use Rattle.bond.specs.note.Example.{exampleNote}
 use Rattle.bond.specs.declared.note.Note.{Note}
 use Rattle.calendar.proofs.dates.Examples.{on}
 use Rattle.bond.proofs.note.Examples.{euro}
@@ -44,17 +45,17 @@ abbrev pub flow : Date → Float → CashFlow
 flow t x = record { date = t; currency = euro; amount = x }
 
 -- 2021-07-15 20, 2022-01-17 20, 2022-01-17 1000: the 15th of January 2022 is a Saturday
-pub the-listing : cashFlows notes.listed one [] ≡ given (flow (on 2021 7 15) twenty ∷ flow (on 2022 1 17) twenty ∷ flow (on 2022 1 17) thousand ∷ [])
+pub the-listing : cashFlows exampleNote one [] ≡ given (flow (on 2021 7 15) twenty ∷ flow (on 2022 1 17) twenty ∷ flow (on 2022 1 17) thousand ∷ [])
 unfolding leap lengthIn monthLength yearLength daysBefore unitHolding isDate isDay dayNumber yearOf inYear theDate monthDate isBefore isSame dateOf weekdayOf fromZeroTo monthsLater existingDate ascendsFrom isTable isListed isWeekend isBusiness firstOf nextFrom lastOf prevFrom nextDate prevDate modifiedDate adjusted exactFraction bits impossible simpleFraction yearFraction couponDate isCapital isCurrency isNoteNumber isCouponRate isPosition periodChecks termChecks noteChecks inYearOf firstCouponEnd couponAmount paid couponFlow laterFlows noteFlows cashFlows add mul div ofInt
 the-listing = refl
 
 -- four places of room: three are written, and the fourth keeps its contents; two are too few
 pub record Room : Type 0 where
-  pub answer : counted (fitted notes.listed one [] (9 ∷ 9 ∷ 9 ∷ 9 ∷ []) (one ∷ one ∷ one ∷ one ∷ [])) ≡ given 3
-  pub days : roomAfter flowDay (fitted notes.listed one [] (9 ∷ 9 ∷ 9 ∷ 9 ∷ []) (one ∷ one ∷ one ∷ one ∷ [])) (9 ∷ 9 ∷ 9 ∷ 9 ∷ []) ≡ 737986 ∷ 738172 ∷ 738172 ∷ 9 ∷ []
-  pub amounts : roomAfter amountOf (fitted notes.listed one [] (9 ∷ 9 ∷ 9 ∷ 9 ∷ []) (one ∷ one ∷ one ∷ one ∷ [])) (one ∷ one ∷ one ∷ one ∷ []) ≡ twenty ∷ twenty ∷ thousand ∷ one ∷ []
-  pub too-few-days : fitted notes.listed one [] (9 ∷ 9 ∷ []) (one ∷ one ∷ one ∷ one ∷ []) ≡ refused 16
-  pub too-few-amounts : fitted notes.listed one [] (9 ∷ 9 ∷ 9 ∷ 9 ∷ []) (one ∷ one ∷ []) ≡ refused 16
+  pub answer : counted (fitted exampleNote one [] (9 ∷ 9 ∷ 9 ∷ 9 ∷ []) (one ∷ one ∷ one ∷ one ∷ [])) ≡ given 3
+  pub days : roomAfter flowDay (fitted exampleNote one [] (9 ∷ 9 ∷ 9 ∷ 9 ∷ []) (one ∷ one ∷ one ∷ one ∷ [])) (9 ∷ 9 ∷ 9 ∷ 9 ∷ []) ≡ 737986 ∷ 738172 ∷ 738172 ∷ 9 ∷ []
+  pub amounts : roomAfter amountOf (fitted exampleNote one [] (9 ∷ 9 ∷ 9 ∷ 9 ∷ []) (one ∷ one ∷ one ∷ one ∷ [])) (one ∷ one ∷ one ∷ one ∷ []) ≡ twenty ∷ twenty ∷ thousand ∷ one ∷ []
+  pub too-few-days : fitted exampleNote one [] (9 ∷ 9 ∷ []) (one ∷ one ∷ one ∷ one ∷ []) ≡ refused 16
+  pub too-few-amounts : fitted exampleNote one [] (9 ∷ 9 ∷ 9 ∷ 9 ∷ []) (one ∷ one ∷ []) ≡ refused 16
 
 pub room : Room
 unfolding dayNumber daysBefore yearLength monthLength lengthIn leap
@@ -64,7 +65,7 @@ room = record { answer = rw the-listing; days = rw the-listing; amounts = rw the
 abbrev pub late : Note
 late =
     record {
-      number = notes.listed .number;
+      number = exampleNote .number;
       «issue_date» = on 9999 11 15;
       maturity = on 9999 12 31;
       «coupon_date» = record { day = 15; month = 12 };
@@ -72,7 +73,7 @@ late =
       «day_count_convention» = conv.Act365;
       «business_day_rule» = rule.None;
       denomination = 1000;
-      rate = notes.listed .rate;
+      rate = exampleNote .rate;
       currency = euro;
     }
 

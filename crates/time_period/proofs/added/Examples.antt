@@ -1,4 +1,4 @@
--- The desk card's steps, the refusals in their order, and business days, as theorems about the definitions.
+-- Fifteen months back, the refusals in their order, and business days, as theorems about the definitions; the desk card's steps stand in `desk_card`.
 use Prim.Native.Nat.{ℕ}
 use mathlib.Core.Path.{_≡_, refl, ap, _∙_}
 use mathlib.Core.List.{List, [], _∷_}
@@ -22,19 +22,14 @@ use Rattle.time_period.specs.declared.steps.TimePeriodUnit.the-variants.
 use Rattle.calendar.proofs.dates.Examples.{on}
 use Rattle.time_period.proofs.steps.Examples.{of}
 
--- each of the desk card's by its letter; and -15M, added and subtracted
-pub record Card : Type 0 where
-  pub a : addTo (of (pos 12) Monthly) absent (on 2024 2 29) ≡ given (on 2025 2 28)
-  pub b : addTo (of (pos 1) Annual) absent (on 2024 2 29) ≡ refused 1
-  pub c : addTo (of (pos 1) Monthly) absent (on 2021 1 31) ≡ given (on 2021 2 28)
-  pub d : subFrom (of (pos 1) Monthly) absent (on 2021 2 28) ≡ given (on 2021 1 28)
-  pub f : addTo (of (pos 1) Monthly) absent (on 9999 12 1) ≡ refused 1
-  pub fifteen-back : addTo (of (negsuc 14) Monthly) absent (on 2021 3 15) ≡ given (on 2019 12 15)
-  pub fifteen-off : subFrom (of (pos 15) Monthly) absent (on 2021 3 15) ≡ given (on 2019 12 15)
+-- 2021-03-15 -15M, added and subtracted
+pub record FifteenMonths : Type 0 where
+  pub added : addTo (of (negsuc 14) Monthly) absent (on 2021 3 15) ≡ given (on 2019 12 15)
+  pub subtracted : subFrom (of (pos 15) Monthly) absent (on 2021 3 15) ≡ given (on 2019 12 15)
 
-pub card : Card
-unfolding leap lengthIn monthLength isDate monthDate fromZeroTo monthsLater existingDate yearsLater inverseOf addTo subFrom
-card = record { a = refl; b = refl; c = refl; d = refl; f = refl; fifteen-back = refl; fifteen-off = refl }
+pub fifteen-months : FifteenMonths
+unfolding leap lengthIn monthLength isDate monthDate fromZeroTo monthsLater inverseOf addTo subFrom
+fifteen-months = record { added = refl; subtracted = refl }
 
 -- the calendar's end, the least number, and the order: 1 for the date, 4, 12, 13
 pub record Refusals : Type 0 where

@@ -32,7 +32,7 @@ returns-2 c = search needs
 loop-holds : tie.Need-loop-holds Inv-loop μ-loop
 loop-holds c =
     let s = c .before .before .before .before in
-    bracket-near (s .args .table .now) (s .args .n) (s .args .near) (s .pre) (omega arith) (omega (arith, c .before .holiday-before .ensures))
+    bracket-near (s .args .table .now) (s .args .n) (s .args .hint) (s .pre) (omega arith) (omega (arith, c .before .holiday-before .ensures))
 
 mul-if3 : tie.Need-mul-if3 Inv-loop μ-loop
 mul-if3 c = omega arith

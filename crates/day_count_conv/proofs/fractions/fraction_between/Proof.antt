@@ -8,7 +8,7 @@ use Rattle.outcome.specs.Outcome.{Outcome, given, unless}
 use Rattle.calendar.specs.dates.Dates.{isDate}
 use Rattle.day_fraction.specs.Fractions.{Span, impossible}
 use Rattle.day_fraction.specs.declared.SimpleRule.the-variants as simple
-use Rattle.day_count_conv.specs.conventions.Conventions.{FractionWithin, fractionsInF64, fractionsExactly, none, byRule, rollDated, simpleFraction, yearFraction}
+use Rattle.day_count_conv.specs.conventions.Conventions.{FractionWithin, fractionsInF64, fractionsExactly, noTerms, byRule, rollDated, simpleFraction, yearFraction}
 use Rattle.day_count_conv.specs.declared.conventions.DayCountConv.{DayCountConv}
 use Rattle.day_count_conv.specs.declared.conventions.DayCountConv.the-variants as conv
 use Rattle.day_count_conv.proofs.conventions.Judged.{spans, span-fraction}
@@ -17,7 +17,7 @@ use Rattle.day_count_conv.proofs.fractions.fraction_between.Statement.{
 use Rattle.day_count_conv.proofs.fractions.fraction_between.Tie as tie
 
 -- a roll date that is not given is none that does not exist
-unrolled : (rule : DayCountConv) → rollDated rule (none .roll) ≡ true
+unrolled : (rule : DayCountConv) → rollDated rule (noTerms .roll) ≡ true
 unrolled conv.Act365 = refl
 unrolled conv.Act360 = refl
 unrolled conv.Act365l = refl
@@ -32,7 +32,7 @@ returns : tie.Need-returns
 unfolding yearFraction
 returns c =
     let s : tie.Start = c .before .before in
-    promised (s .args .rule) (s .args .from) (s .args .to) none _ (rw (sym (c .before .is-date .ensures) ∙ not-true _ (c .if1 .taken)))
+    promised (s .args .convention) (s .args .from) (s .args .to) noTerms _ (rw (sym (c .before .is-date .ensures) ∙ not-true _ (c .if1 .taken)))
 
 is-date-requires-2 : tie.Need-is-date-requires-2
 is-date-requires-2 c κs = search needs
@@ -41,7 +41,7 @@ returns-2 : tie.Need-returns-2
 unfolding yearFraction
 returns-2 c =
     let s : tie.Start = c .before .before .before .before in
-    promised (s .args .rule) (s .args .from) (s .args .to) none _ (rw (sym (c .before .before .before .is-date .ensures) ∙ not-false _ (c .before .before .if1 .left), sym (c .before .is-date2 .ensures) ∙ not-true _ (c .if2 .taken)))
+    promised (s .args .convention) (s .args .from) (s .args .to) noTerms _ (rw (sym (c .before .before .before .is-date .ensures) ∙ not-false _ (c .before .before .if1 .left), sym (c .before .is-date2 .ensures) ∙ not-true _ (c .if2 .taken)))
 
 -- past their tests the dates are dates
 module _ (c : tie.Else2) where
@@ -62,7 +62,7 @@ unfolding yearFraction
 returns-3 c =
     let e = c .before .before in
     let s = begun e in
-    promised (s .args .rule) (s .args .from) (s .args .to) none _ (rw (starts e, ends e, unrolled (s .args .rule), sym (c .before .is-before .ensures) ∙ c .if3 .taken))
+    promised (s .args .convention) (s .args .from) (s .args .to) noTerms _ (rw (starts e, ends e, unrolled (s .args .convention), sym (c .before .is-before .ensures) ∙ c .if3 .taken))
 
 -- and past the third they are in order, so that the rule's outcome is the promised one
 module _ (c : tie.Else3) where
@@ -73,12 +73,12 @@ module _ (c : tie.Else3) where
   span = spans _ _ (starts (c .before .before)) (ends (c .before .before)) (sym (c .before .is-before .ensures) ∙ c .if3 .left)
 
   abbrev Rule : DayCountConv → Outcome Float
-  Rule r = byRule fractionsInF64 r (asked .args .from) (asked .args .to) none
+  Rule r = byRule fractionsInF64 r (asked .args .from) (asked .args .to) noTerms
 
-  told : (o : Outcome Float) (r : DayCountConv) → asked .args .rule ≡ r → o ≡ Rule r → (o ≡ yearFraction fractionsInF64 (asked .args .rule) (asked .args .from) (asked .args .to) none) × FractionWithin o (yearFraction fractionsExactly (asked .args .rule) (asked .args .from) (asked .args .to) none)
+  told : (o : Outcome Float) (r : DayCountConv) → asked .args .convention ≡ r → o ≡ Rule r → (o ≡ yearFraction fractionsInF64 (asked .args .convention) (asked .args .from) (asked .args .to) noTerms) × FractionWithin o (yearFraction fractionsExactly (asked .args .convention) (asked .args .from) (asked .args .to) noTerms)
   told o r t e =
-      promised (asked .args .rule) (asked .args .from) (asked .args .to) none o
-      (e ∙ ap Rule (sym t) ∙ sym (span-fraction fractionsInF64 (asked .args .rule) (asked .args .from) (asked .args .to) none span (unrolled (asked .args .rule))))
+      promised (asked .args .convention) (asked .args .from) (asked .args .to) noTerms o
+      (e ∙ ap Rule (sym t) ∙ sym (span-fraction fractionsInF64 (asked .args .convention) (asked .args .from) (asked .args .to) noTerms span (unrolled (asked .args .convention))))
 
 enum-told : tie.Need-enum-told
 enum-told c = search needs

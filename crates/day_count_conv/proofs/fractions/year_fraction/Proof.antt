@@ -18,7 +18,7 @@ returns : tie.Need-returns
 unfolding yearFraction
 returns c =
     let s : tie.Start = c .before .before in
-    promised (s .args .rule) (s .args .start) (s .args .end) (s .args .x) _ (rw (sym (c .before .is-date .ensures) ∙ not-true _ (c .if1 .taken)))
+    promised (s .args .convention) (s .args .start) (s .args .end) (s .args .x) _ (rw (sym (c .before .is-date .ensures) ∙ not-true _ (c .if1 .taken)))
 
 is-date-requires-2 : tie.Need-is-date-requires-2
 is-date-requires-2 c κs = search needs
@@ -27,7 +27,7 @@ returns-2 : tie.Need-returns-2
 unfolding yearFraction
 returns-2 c =
     let s : tie.Start = c .before .before .before .before in
-    promised (s .args .rule) (s .args .start) (s .args .end) (s .args .x) _ (rw (sym (c .before .before .before .is-date .ensures) ∙ not-false _ (c .before .before .if1 .left), sym (c .before .is-date2 .ensures) ∙ not-true _ (c .if2 .taken)))
+    promised (s .args .convention) (s .args .start) (s .args .end) (s .args .x) _ (rw (sym (c .before .before .before .is-date .ensures) ∙ not-false _ (c .before .before .if1 .left), sym (c .before .is-date2 .ensures) ∙ not-true _ (c .if2 .taken)))
 
 roll-dated-requires : tie.Need-roll-dated-requires
 roll-dated-requires c κs = search needs
@@ -36,7 +36,7 @@ returns-3 : tie.Need-returns-3
 unfolding yearFraction
 returns-3 c =
     let s : tie.Start = c .before .before .before .before .before .before in
-    promised (s .args .rule) (s .args .start) (s .args .end) (s .args .x) _ (rw (sym (c .before .before .before .before .before .is-date .ensures) ∙ not-false _ (c .before .before .before .before .if1 .left), sym (c .before .before .before .is-date2 .ensures) ∙ not-false _ (c .before .before .if2 .left), sym (c .before .roll-dated .ensures) ∙ not-true _ (c .if3 .taken)))
+    promised (s .args .convention) (s .args .start) (s .args .end) (s .args .x) _ (rw (sym (c .before .before .before .before .before .is-date .ensures) ∙ not-false _ (c .before .before .before .before .if1 .left), sym (c .before .before .before .is-date2 .ensures) ∙ not-false _ (c .before .before .if2 .left), sym (c .before .roll-dated .ensures) ∙ not-true _ (c .if3 .taken)))
 
 -- past their tests the dates are dates, and the roll date too
 module _ (c : tie.Else3) where
@@ -49,7 +49,7 @@ module _ (c : tie.Else3) where
   ends : isDate (begun .args .end) ≡ true
   ends = sym (c .before .before .before .is-date2 .ensures) ∙ not-false _ (c .before .before .if2 .left)
 
-  rolls : rollDated (begun .args .rule) (begun .args .x .roll) ≡ true
+  rolls : rollDated (begun .args .convention) (begun .args .x .roll) ≡ true
   rolls = sym (c .before .roll-dated .ensures) ∙ not-false _ (c .if3 .left)
 
 is-before-requires : tie.Need-is-before-requires
@@ -60,7 +60,7 @@ unfolding yearFraction
 returns-4 c =
     let e = c .before .before in
     let s = begun e in
-    promised (s .args .rule) (s .args .start) (s .args .end) (s .args .x) _ (rw (starts e, ends e, rolls e, sym (c .before .is-before .ensures) ∙ c .if4 .taken))
+    promised (s .args .convention) (s .args .start) (s .args .end) (s .args .x) _ (rw (starts e, ends e, rolls e, sym (c .before .is-before .ensures) ∙ c .if4 .taken))
 
 -- the two dates are in order
 span : (c : tie.Else4) → Span (begun (c .before .before) .args .start) (begun (c .before .before) .args .end)
@@ -73,7 +73,7 @@ returns-5 : tie.Need-returns-5
 returns-5 c =
     let e = c .before .before .before in
     let s = begun e in
-    promised (s .args .rule) (s .args .start) (s .args .end) (s .args .x) _ (c .fraction-judged .ensures ∙ sym (span-fraction fractionsInF64 (s .args .rule) (s .args .start) (s .args .end) (s .args .x) (span (c .before)) (rolls e)))
+    promised (s .args .convention) (s .args .start) (s .args .end) (s .args .x) _ (c .fraction-judged .ensures ∙ sym (span-fraction fractionsInF64 (s .args .convention) (s .args .start) (s .args .end) (s .args .x) (span (c .before)) (rolls e)))
 
 pub year-fraction-spec : {M : Type 1} → statement M
 year-fraction-spec =

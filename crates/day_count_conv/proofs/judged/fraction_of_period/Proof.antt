@@ -20,7 +20,7 @@ returns c =
     c .whole-period .ensures ∙ whole-is (s .args .p) (s .args .from) (s .args .to) (s .pre .0 .first) (s .pre .1) ∙ ap (λ (r : DayCountConv). byRule fractionsInF64 r (s .args .from) (s .args .to) (rolledFrom (s .args .from) (s .args .p))) (sym (c .before .enum-told .given .1))
 
 fraction-judged-requires : tie.Need-fraction-judged-requires
-fraction-judged-requires c κs = let s : tie.Start = c .before in (s .pre .0, roll-dated (s .args .rule) (s .args .from) (s .pre .0 .first))
+fraction-judged-requires c κs = let s : tie.Start = c .before in (s .pre .0, roll-dated (s .args .convention) (s .args .from) (s .pre .0 .first))
 
 returns-2 : tie.Need-returns-2
 returns-2 c = search needs

@@ -55,10 +55,6 @@ pub fn fraction_of_period(
     if let DayCountConv::ActActICMA = convention {
         return crate::conventions::whole_period(p);
     }
-    fraction_judged(
-        convention,
-        from,
-        to,
-        crate::conventions::rolled_from(from, p),
-    )
+    let terms = crate::conventions::rolled_from(from, p);
+    fraction_judged(convention, from, to, terms)
 }

@@ -34,7 +34,7 @@ fn roll_period(f: &[u8], at: usize) -> RollPeriod {
     RollPeriod::Absent
 }
 
-fn extras(f: &[u8]) -> NoteTerms {
+fn terms(f: &[u8]) -> NoteTerms {
     NoteTerms {
         roll: roll_date(f, 25),
         period: roll_period(f, 38),
@@ -47,7 +47,7 @@ fn year_fraction(f: &[u8]) -> Row {
         rule,
         fields::date(f, 1),
         fields::date(f, 13),
-        extras(f),
+        terms(f),
     ))
 }
 

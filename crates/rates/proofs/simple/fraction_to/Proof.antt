@@ -1,4 +1,4 @@
--- `rates::fraction_to` meets its contract: the fraction without extras.
+-- `rates::fraction_to` meets its contract: the fraction without terms.
 use borrow.Author.Needs.{needs}
 use Rattle.rates.specs.simple.Rates.{fractionTo}
 use Rattle.rates.proofs.simple.fraction_to.Statement.{statement}

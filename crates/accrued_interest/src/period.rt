@@ -5,8 +5,7 @@ ghost use Prim.Native.Nat.{_≤_};
 ghost use lib.IntN.{pos};
 ghost use Rattle.calendar.specs.dates.Dates.{isDate, dayNumber};
 ghost use Rattle.day_fraction.specs.Fractions.{quotient};
-ghost use Rattle.day_count_conv.specs.conventions.Conventions.{fractionOutcome, yearFraction};
-ghost use Rattle.day_count_conv.specs.conventions.Conventions as fraction;
+ghost use Rattle.day_count_conv.specs.conventions.Conventions.{fractionOutcome, yearFraction, fractionsInF64};
 ghost use Rattle.accrued_interest.specs.period.PeriodInterest.{Begun, elapsedDays, periodDays, rolled, dueBits, amountDue, accruedIn, amountsInF64};
 use bond::Note;
 use calendar::Date;
@@ -21,7 +20,7 @@ pub(crate) struct CouponPeriod {
 // The year fraction of a period, rolled from its start: the dates are judged.
 fn fraction(note: Note, p: CouponPeriod) -> YearFraction
     requires { ⌜ (isDate (p .start) ≡ true) × (isDate (p .end) ≡ true) × (dayNumber (p .start) ≤ dayNumber (p .end)) ⌝ }
-    ensures { λ r. ⌜ fractionOutcome r ≡ yearFraction fraction.fractionsInF64 (note .«day_count_convention») (p .start) (p .end) (rolled note p) ⌝ }
+    ensures { λ r. ⌜ fractionOutcome r ≡ yearFraction fractionsInF64 (note .«day_count_convention») (p .start) (p .end) (rolled note p) ⌝ }
 {
     let start = p.start;
     let period = note.period;

@@ -42,8 +42,7 @@ use Rattle.packed_write.specs.packed.Writing.{packedNote}
 use Rattle.packed_write.proofs.packed.OneOutcome.{write-numbered}
 use Rattle.rollout.specs.plain.Rollout.{fitted}
 use Rattle.rollout.proofs.plain.OneOutcome.{rollout-numbered}
-use Rattle.accrued_interest.specs.note.Accrued.{accrued}
-use Rattle.accrued_interest.specs.note.Accrued as interest
+use Rattle.accrued_interest.specs.note.Accrued.{accrued, amountsInF64}
 use Rattle.accrued_interest.proofs.note.OneOutcome.{accrued-numbered}
 use Rattle.fixed_income.specs.plain.Plain.{PlainFlow}
 use Rattle.fixed_income.specs.plain.Plain.{listedWritten}
@@ -154,8 +153,8 @@ module _ (o : Outcome Note) (h : Numbered o) where
   pub rollout-face-numbered : (position : Float) (table days : List ℕ) (amounts : List Float) → Numbered (andThen o (λ n. passedAs (flowRooms days amounts) (fitted n position table days amounts)))
   rollout-face-numbered position table days amounts = then-numbered o _ h (λ n. passed-numbered _ (fitted n position table days amounts) (rollout-numbered n position table _))
 
-  pub accrued-face-numbered : (today : Date) → Numbered (andThen o (λ n. accrued interest.inBits n today))
-  accrued-face-numbered today = then-numbered o _ h (λ n. accrued-numbered interest.inBits n today)
+  pub accrued-face-numbered : (today : Date) → Numbered (andThen o (λ n. accrued amountsInF64 n today))
+  accrued-face-numbered today = then-numbered o _ h (λ n. accrued-numbered amountsInF64 n today)
 
   pub write-face-numbered : (table d : List ℕ) → Numbered (andThen o (λ n. andThen (packedNote n table) (textIn d)))
   write-face-numbered table d = then-numbered o _ h (λ n. shown-numbered (packedNote n table) d (write-numbered n table d))

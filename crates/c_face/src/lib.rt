@@ -21,8 +21,7 @@ ghost use Rattle.cash_flow.specs.flow.Flows.{sameFlows};
 ghost use Rattle.flow_text.specs.flow.Texts.{flowShown};
 ghost use Rattle.bond.specs.note.Notes.{noteChecks};
 ghost use Rattle.rollout.specs.plain.Rollout.{fitted};
-ghost use Rattle.accrued_interest.specs.note.Accrued.{accrued};
-ghost use Rattle.accrued_interest.specs.note.Accrued as interest;
+ghost use Rattle.accrued_interest.specs.note.Accrued.{accrued, amountsInF64};
 ghost use Rattle.packed_write.specs.packed.Writing.{packedNote};
 ghost use Rattle.note_listing.specs.note.Listing.{listing};
 ghost use Rattle.fixed_income.specs.plain.Plain.{plainFlows, shortest, listedWritten};
@@ -624,7 +623,7 @@ pub extern "C" fn notes_accrued_interest(
     day: u32,
     amount: &mut f64,
 ) -> u32
-    ensures { λ r. ⌜ HandsOver (andThen (noteOf (noteNumber «number_count» «number_digits») (date «issue_year» «issue_month» «issue_day») (date «maturity_year» «maturity_month» «maturity_day») (coupon «coupon_day» «coupon_month») «period_num» «period_unit» convention adjustment denomination rate (currency c1 c2 c3)) (λ note. accrued interest.inBits note (date year month day))) r (now (amount .entry)) (now (amount .exit)) ⌝ }
+    ensures { λ r. ⌜ HandsOver (andThen (noteOf (noteNumber «number_count» «number_digits») (date «issue_year» «issue_month» «issue_day») (date «maturity_year» «maturity_month» «maturity_day») (coupon «coupon_day» «coupon_month») «period_num» «period_unit» convention adjustment denomination rate (currency c1 c2 c3)) (λ note. accrued amountsInF64 note (date year month day))) r (now (amount .entry)) (now (amount .exit)) ⌝ }
 {
     match c_values::note_of(
         number_count,

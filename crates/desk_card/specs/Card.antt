@@ -18,8 +18,7 @@ use Rattle.day_count_conv.specs.declared.conventions.DayCountConv.the-variants 
 use Rattle.day_count_conv.specs.declared.conventions.NoteTerms.{NoteTerms}
 use Rattle.bond.specs.note.Example.{exampleNote}
 use Rattle.bond.specs.declared.note.Note.{Note}
-use Rattle.accrued_interest.specs.note.Accrued.{accrued, CloseAmount}
-use Rattle.accrued_interest.specs.note.Accrued as accrual
+use Rattle.accrued_interest.specs.note.Accrued.{accrued, CloseAmount, amountsInF64, amountsExactly}
 
 -- a date, a number of months or of years, and a fraction
 abbrev pub on : ℕ → ℕ → ℕ → Date
@@ -46,8 +45,8 @@ Equals (refused n) q = ⊥
 
 -- an amount's line: this number exactly, and the f64 within 1 / 100,000 of it
 pub record Accrual (note : Note) (today : Date) (answer : Exact) : Type 0 where
-  pub exact : Equals (accrued accrual.amountsExactly note today) answer
-  pub close : Agree CloseAmount (accrued accrual.amountsInF64 note today) (given answer)
+  pub exact : Equals (accrued amountsExactly note today) answer
+  pub close : Agree CloseAmount (accrued amountsInF64 note today) (given answer)
 
 pub record DeskCard : Type 0 where
   -- 2024-02-29 +12M is 2025-02-28; +1Y is refused 1

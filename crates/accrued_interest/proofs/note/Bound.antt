@@ -21,8 +21,7 @@ use Rattle.calendar.proofs.dates.Order.{not-before}
 use Rattle.day_fraction.specs.Exact.{Exact}
 use Rattle.day_fraction.specs.Fractions.{whole, quotient}
 use Rattle.day_fraction.proofs.Bounds.{NearTo}
-use Rattle.day_count_conv.specs.conventions.Conventions.{fractionOutcome, yearFraction, Agree}
-use Rattle.day_count_conv.specs.conventions.Conventions as fraction
+use Rattle.day_count_conv.specs.conventions.Conventions.{fractionOutcome, yearFraction, Agree, fractionsExactly, fractionsInF64}
 use Rattle.day_count_conv.specs.declared.conventions.YearFraction.{YearFraction}
 use Rattle.day_count_conv.proofs.conventions.Agreement.{unless-agree, pick-agree, then-agree, given-agree}
 use Rattle.day_count_conv.proofs.conventions.Bounds.{year-near}
@@ -57,7 +56,7 @@ module _ (n : Note) (today : Date) (few : n .denomination ≤ 1000000) (held : T
   due-agrees : (p : CouponPeriod) → Begun today p → dayNumber today ≤ dayNumber (p .end) → Agree CloseAmount (amountDue amountsInF64 n today p) (amountDue amountsExactly n today p)
   unfolding amountDue
   due-agrees p b l =
-      given-agree NearTo CloseAmount (yearFraction fraction.fractionsInF64 (n .«day_count_convention») (p .start) (p .end) (rolled n p)) (yearFraction fraction.fractionsExactly (n .«day_count_convention») (p .start) (p .end) (rolled n p))
+      given-agree NearTo CloseAmount (yearFraction fractionsInF64 (n .«day_count_convention») (p .start) (p .end) (rolled n p)) (yearFraction fractionsExactly (n .«day_count_convention») (p .start) (p .end) (rolled n p))
       (λ x. dueBits n x (elapsedDays p today) (periodDays p)) (λ q. dueExact n q (elapsedDays p today) (periodDays p))
       (year-near (n .«day_count_convention») (p .start) (p .end) (rolled n p))
       (λ x q N.

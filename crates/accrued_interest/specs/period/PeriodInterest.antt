@@ -9,8 +9,7 @@ use Rattle.calendar.specs.dates.Dates.{isDate, isBefore, dayNumber}
 use Rattle.calendar.specs.declared.dates.Date.{Date}
 use Rattle.day_fraction.specs.Exact.{Exact}
 use Rattle.day_fraction.specs.Fractions.{whole, quotient}
-use Rattle.day_count_conv.specs.conventions.Conventions.{rolledFrom, Values, yearFraction}
-use Rattle.day_count_conv.specs.conventions.Conventions as fraction
+use Rattle.day_count_conv.specs.conventions.Conventions.{rolledFrom, Values, yearFraction, fractionsExactly, fractionsInF64}
 use Rattle.day_count_conv.specs.declared.conventions.NoteTerms.{NoteTerms}
 use Rattle.bond.specs.note.Notes.{interestOn, exactInterest}
 use Rattle.bond.specs.declared.note.Note.{Note}
@@ -54,7 +53,7 @@ abbrev pub dueBits : Note → Float → ℕ → ℕ → Float
 dueBits n fraction elapsed days = mul binary64 (interestOn (whole (pos (n .denomination))) (n .rate) fraction) (quotient (pos elapsed) days)
 
 abbrev pub amountsInF64 : Amounts Float
-amountsInF64 = record { nothing = ofBits binary64 0; fractions = fraction.fractionsInF64; due = dueBits }
+amountsInF64 = record { nothing = ofBits binary64 0; fractions = fractionsInF64; due = dueBits }
 
 -- the same over fractions
 abbrev pub dueExact : Note → Exact → ℕ → ℕ → Exact
@@ -63,4 +62,4 @@ dueExact n fraction elapsed days =
     record { num = full .num *ℤ pos elapsed; den = full .den * days }
 
 abbrev pub amountsExactly : Amounts Exact
-amountsExactly = record { nothing = record { num = pos 0; den = 1 }; fractions = fraction.fractionsExactly; due = dueExact }
+amountsExactly = record { nothing = record { num = pos 0; den = 1 }; fractions = fractionsExactly; due = dueExact }

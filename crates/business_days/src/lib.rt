@@ -10,7 +10,7 @@ pub use days::is_business_day;
 pub use days::next_bday;
 pub use days::prev_bday;
 pub use table::MOST_HOLIDAYS;
-pub use table::NOWHERE;
+pub use table::Place;
 pub use table::is_table;
 
 // Inner: for the crates of the register, which have judged what these ask for.

@@ -9,8 +9,11 @@ ghost use lib.ListN.{length};
 ghost use Rattle.business_days.specs.days.Answers.{TablePromise};
 use calendar::LAST_DAY;
 
-// No place of a table, and none is near it.
-pub const NOWHERE: usize = 4097;
+// A day's place in a table, that of the first holiday not before it; or the table is not taken.
+pub enum Place {
+    At(usize),
+    NoTable,
+}
 
 // Inner: the place of the first holiday that is not before a day, by halving.
 pub(crate) fn lower_bound(table: &[u32], n: u32) -> usize
@@ -57,7 +60,7 @@ fn is_ascending(table: &[u32]) -> bool
 }
 
 // Of a short table, judged by the way. What is wrong and the holidays before a day, which are its place, are counted: the compiler then takes eight days at once, and 32 where it is a yes or no.
-fn judge_short(table: &[u32], n: u32) -> usize
+fn judge_short(table: &[u32], n: u32) -> Place
     requires { ⌜ length (now table) ≤ 32 ⌝ }
     ensures { λ r. ⌜ Placed (now (table .entry)) n r ⌝ }
 {
@@ -77,12 +80,13 @@ fn judge_short(table: &[u32], n: u32) -> usize
         i += 1;
     }
     if LAST_DAY < last {
-        return NOWHERE;
+        return Place::NoTable;
     }
     if 0 < wrong {
-        return NOWHERE;
+        return Place::NoTable;
     }
-    before as usize
+    let place = before as usize;
+    Place::At(place)
 }
 
 // Whether a holiday table is taken; where it is not, every question over it is refused with 13. A short one is where a day, whichever, has a place in it.
@@ -90,7 +94,10 @@ pub fn is_table(table: &[u32]) -> bool
     ensures { λ r. ⌜ TablePromise (now (table .entry)) r ⌝ }
 {
     if table.len() < SHORT {
-        return judge_short(table, 0) < NOWHERE;
+        return match judge_short(table, 0) {
+            Place::At(_) => true,
+            Place::NoTable => false,
+        };
     }
     if MOST_HOLIDAYS < table.len() {
         return false;
@@ -98,15 +105,15 @@ pub fn is_table(table: &[u32]) -> bool
     is_ascending(table)
 }
 
-// Inner: the place of the first holiday that is not before a day, of a table that is not judged yet; NOWHERE for one that is not taken.
-pub fn place_in(table: &[u32], n: u32) -> usize
+// Inner: the place of the first holiday that is not before a day, of a table that is not judged yet.
+pub fn place_in(table: &[u32], n: u32) -> Place
     ensures { λ r. ⌜ Placed (now (table .entry)) n r ⌝ }
 {
     if table.len() < SHORT {
         return judge_short(table, n);
     }
     if !is_table(table) {
-        return NOWHERE;
+        return Place::NoTable;
     }
-    lower_bound(table, n)
+    Place::At(lower_bound(table, n))
 }

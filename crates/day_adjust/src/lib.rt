@@ -10,6 +10,7 @@ ghost use Rattle.calendar.specs.serial.Answers.{dateOutcome};
 ghost use Rattle.business_days.specs.table.Table.{ascending};
 ghost use Rattle.business_days.specs.table.Search.{IsLowerBound};
 ghost use Rattle.day_adjust.specs.Adjustment.{nextDate, prevDate, movedDate, adjusted, AdjustPromise};
+use business_days::Place;
 use calendar::Date;
 use calendar::DateAnswer;
 use calendar::DayAnswer;
@@ -130,12 +131,13 @@ pub fn adjust_date(rule: DayAdjust, t: Date, table: &[u32]) -> DateAnswer
         return DateAnswer::Refused(outcome::INVALID_DATE);
     }
     let n = calendar::day_of_date(t);
-    let i = business_days::place_in(table, n);
-    if business_days::NOWHERE <= i {
-        return DateAnswer::Refused(outcome::BAD_HOLIDAY_TABLE);
+    match business_days::place_in(table, n) {
+        Place::At(i) => {
+            if business_days::business_at(n, table, i) {
+                return DateAnswer::Date(t);
+            }
+            moved_date(rule, t, n, table, i)
+        }
+        Place::NoTable => DateAnswer::Refused(outcome::BAD_HOLIDAY_TABLE),
     }
-    if business_days::business_at(n, table, i) {
-        return DateAnswer::Date(t);
-    }
-    moved_date(rule, t, n, table, i)
 }

@@ -20,6 +20,9 @@ use cash_flow::FlowsAnswer;
 // How many flows a first pass keeps for a second: 21 years of months. There is no heap, and more would cost a short note too much to clear.
 pub const KEPT: usize = 256;
 
+// A hint past every table: the first payment's place is searched for.
+const NO_HINT: usize = 4097;
+
 // One step: a flow's serial day and the flow with what is due after it, a refusal, or the end.
 pub enum Step {
     Pay(u32, CashFlow, Due),
@@ -95,7 +98,7 @@ pub fn next_flow(note: Note, position: f64, table: &[u32], due: Due) -> Step
     requires { ⌜ (JudgedNote note position (now table)) × (Dated due) ⌝ }
     ensures { λ r. ⌜ Turned note position (now (table .entry)) due r ⌝ }
 {
-    let taken = next_flow_near(note, position, table, business_days::NOWHERE, due);
+    let taken = next_flow_near(note, position, table, NO_HINT, due);
     taken.step
 }
 
@@ -129,7 +132,7 @@ pub fn collect(
     ensures { λ _. ⌜ Kept note position (now (table .entry)) (now (days .entry)) (now (amounts .entry)) (now (days .exit)) (now (amounts .exit)) ⌝ }
 {
     let mut k: usize = 0;
-    let mut hint = business_days::NOWHERE;
+    let mut hint = NO_HINT;
     let mut due = Due::First;
     loop {
         let taken = next_flow_near(note, position, table, hint, due);

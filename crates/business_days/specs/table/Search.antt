@@ -5,6 +5,8 @@ use mathlib.Core.Bool.{true, false}
 use mathlib.Core.List.{List}
 use lib.ListN.{length, getD}
 use Rattle.business_days.specs.table.Table.{ascending, isTable}
+use Rattle.business_days.specs.declared.table.Place.{Place}
+use Rattle.business_days.specs.declared.table.Place.the-variants as place
 
 -- a serial day of the calendar, and holidays that ascend, however many
 pub record JudgedDay (n : ℕ) (t : List ℕ) : Type 0 where
@@ -19,7 +21,7 @@ pub record IsLowerBound (t : List ℕ) (n i : ℕ) : Type 0 where
   pub before : (k : ℕ) → k < i → getD t k 0 < n
   pub after : (k : ℕ) → i ≤ k → k < length t → n ≤ getD t k 0
 
--- a day's place in a table that is taken; 4,097 and more are no place, of a table that is not
-pub record Placed (t : List ℕ) (n i : ℕ) : Type 0 where
-  pub taken : i < 4097 → (isTable t ≡ true) × IsLowerBound t n i
-  pub refused : 4097 ≤ i → isTable t ≡ false
+-- the place of a day in a table that is taken, or that it is not taken
+abbrev pub Placed : List ℕ → ℕ → Place → Type 0
+Placed t n (place.At i) = (isTable t ≡ true) × IsLowerBound t n i
+Placed t n place.NoTable = isTable t ≡ false

@@ -67,22 +67,16 @@ returns : tie.Need-returns Inv-loop μ-loop
 returns c =
     let l = c .before .before .loop in
     let t = c .before .before .before .args .table .now in
-    record {
-      taken = λ h. absurd (omega arith);
-      refused = λ h. table-is t (omega arith) ∙ sym (past-the-end t (eqb (l .wrong) 0) (l .last) (l .i) (l .inv .2) (c .before .loop-test .left) (c .if3 .taken));
-    }
+    table-is t (omega arith) ∙ sym (past-the-end t (eqb (l .wrong) 0) (l .last) (l .i) (l .inv .2) (c .before .loop-test .left) (c .if3 .taken))
 
 returns-2 : tie.Need-returns-2 Inv-loop μ-loop
 returns-2 c =
     let l = c .before .before .before .loop in
     let t = c .before .before .before .before .args .table .now in
-    record {
-      taken = λ h. absurd (omega arith);
-      refused = λ h. table-is t (omega arith) ∙ sym (within-the-end t (eqb (l .wrong) 0) (l .last) (l .i) (l .inv .2) (c .before .before .loop-test .left) (c .before .if3 .left)) ∙ ne-eqb (l .wrong) 0 (λ e. omega arith);
-    }
+    table-is t (omega arith) ∙ sym (within-the-end t (eqb (l .wrong) 0) (l .last) (l .i) (l .inv .2) (c .before .before .loop-test .left) (c .before .if3 .left)) ∙ ne-eqb (l .wrong) 0 (λ e. omega arith)
 
-cast-result : tie.Need-cast-result Inv-loop μ-loop
-cast-result c = search needs
+cast-place : tie.Need-cast-place Inv-loop μ-loop
+cast-place c = search needs
 
 returns-3 : tie.Need-returns-3 Inv-loop μ-loop
 returns-3 c =
@@ -90,10 +84,7 @@ returns-3 c =
     let s = c .before .before .before .before in
     let t = s .args .table .now in
     let ascends : ascending t ≡ true = sym (within-the-end t (eqb (l .wrong) 0) (l .last) (l .i) (l .inv .2) (c .before .before .loop-test .left) (c .before .if3 .left)) ∙ eq-eqb (l .wrong) 0 (omega arith) in
-    record {
-      taken = λ h. (table-is t (omega arith) ∙ ascends, subst (IsLowerBound t (s .args .n)) (sym (passed-all (isBelow (s .args .n)) t (l .i) (l .before) (c .before .before .loop-test .left) (l .inv .0))) (counted-place t (s .args .n) ascends));
-      refused = λ h. absurd (omega arith);
-    }
+    (table-is t (omega arith) ∙ ascends, subst (IsLowerBound t (s .args .n)) (sym (passed-all (isBelow (s .args .n)) t (l .i) (l .before) (c .before .before .loop-test .left) (l .inv .0))) (counted-place t (s .args .n) ascends))
 
 pub judge-short-spec : {M : Type 1} → statement M
 judge-short-spec =
@@ -111,5 +102,5 @@ judge-short-spec =
     loop-again
     returns
     returns-2
-    cast-result
+    cast-place
     returns-3)

@@ -23,16 +23,13 @@ is-table-requires : tie.Need-is-table-requires
 is-table-requires c κs = search needs
 
 returns-2 : tie.Need-returns-2
-returns-2 c = record { taken = λ h. absurd (omega arith); refused = λ h. sym (c .before .is-table .ensures) ∙ not-true _ (c .if2 .taken) }
+returns-2 c = sym (c .before .is-table .ensures) ∙ not-true _ (c .if2 .taken)
 
 lower-bound-requires : tie.Need-lower-bound-requires
 lower-bound-requires c κs = table-ascends _ (tabled c)
 
 returns-3 : tie.Need-returns-3
-returns-3 c = record {
-  taken = λ h. (tabled (c .before), c .lower-bound .ensures);
-  refused = λ h. absurd (omega (arith, c .lower-bound .ensures .within, table-most _ (tabled (c .before))));
-}
+returns-3 c = (tabled (c .before), c .lower-bound .ensures)
 
 pub place-in-spec : {M : Type 1} → statement M
 place-in-spec =

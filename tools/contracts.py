@@ -1,0 +1,421 @@
+#!/usr/bin/env python3
+"""Writes docs/CONTRACTS.md: what each entry point promises, and which wrong answers are refused.
+
+  tools/contracts.py          writes the file
+  tools/contracts.py --check  prints the lines that are stale, and ends with 1 where there are any
+
+It reads docs/contracts-head.md, which is the file's beginning, and of every library: the comment and
+the contract of each function that its door hands on (src), the definitions that the contracts name
+(specs), the theorems of one outcome (proofs/**/OneOutcome.antt) and the wrong edits (must-fail).
+It ends with 1 as well where an entry point has no theorem or no comment, or where the head names
+what there is not. On standard error it counts the entry points without an edit of their own crate.
+"""
+import difflib
+import os
+import re
+import sys
+
+sys.dont_write_bytecode = True
+
+import sources
+
+HEAD = os.path.join(sources.ROOT, "docs/contracts-head.md")
+DOCUMENT = os.path.join(sources.ROOT, "docs/CONTRACTS.md")
+
+# Document 01's order: its subjects, and the crates of each. A crate that is not here comes last.
+CHAPTERS = [
+    ("The calendar", ["calendar"]),
+    ("Business days", ["business_days"]),
+    ("Adjustment", ["day_adjust"]),
+    ("Periods and coupon dates", ["date_step", "time_period", "coupon_date"]),
+    ("Year fractions", ["day_fraction", "icma", "day_count_conv"]),
+    ("The note", ["bond"]),
+    ("Rollout", ["note_flows", "rollout"]),
+    ("Accrued interest", ["accrued_interest"]),
+    ("`round2digits` and comparison", ["cash_flow"]),
+    ("`Simple`", ["rates"]),
+    ("Flows after a date", ["fixed_income"]),
+    ("Packed note", ["bit_fields", "packed_codes", "packed_read", "packed_write", "packed_round_trips"]),
+    ("Listing", ["note_listing"]),
+    ("Text", ["number_text", "decimal", "term_text", "flow_text"]),
+    ("The C face", ["c_face", "c_values"]),
+    ("Laws that the others rest on, and the desk card", ["outcome", "rounding", "desk_card"]),
+]
+C_FACE = "c_face"
+MOST_EDITS = 3
+# The head speaks of an entry point as `crate::name` and of a wrong edit as `crate/label`.
+NAMED_ENTRY_POINT = re.compile(r"`(\w+)::(\w+)`")
+NAMED_EDIT = re.compile(r"`(\w+)/(\w+)`")
+EXCEPTION = "## The exception"
+
+
+class Problems(list):
+    """What makes the document wrong; each is told once, at the end."""
+
+    def say(self, text):
+        if text not in self:
+            self.append(text)
+
+
+def entry_points(crate):
+    """What others may call freely; of the C face what is for C."""
+    handed = [i for i in crate.handed_on() if not i.is_inner]
+    return [i for i in handed if i.for_c] if crate.name == C_FACE else handed
+
+
+def inner_functions(crate):
+    return [i for i in crate.handed_on() if i.is_inner]
+
+
+# ---- statements
+
+
+def grouped(words):
+    """Bracketed words as lists: a bracket is a list of its parts, each a list of what it holds."""
+    parts = [[]]
+    while words:
+        word = words.pop(0)
+        if word in "({":
+            parts[-1].append(grouped(words))
+        elif word in ")}":
+            break
+        elif word in ",;":
+            parts.append([])
+        else:
+            parts[-1].append(word)
+    return parts
+
+
+def parsed(statement):
+    """A statement as words and brackets."""
+    return grouped(re.findall(r"[(){},;]|[^\s(){},;⌜⌝]+", statement))[0]
+
+
+def bare(ensures):
+    """A contract without the λ that names its result."""
+    return ensures.split("⌜", 1)[-1].rsplit("⌝", 1)[0].strip()
+
+
+def conjuncts(statement):
+    """The statements that a × joins, without the brackets around each."""
+    found, now = [], []
+    for part in parsed(statement) + ["×"]:
+        if part != "×":
+            now.append(part)
+            continue
+        is_one_bracket = len(now) == 1 and isinstance(now[0], list) and len(now[0]) == 1
+        found.append(now[0][0] if is_one_bracket else now)
+        now = []
+    return found
+
+
+def application(parts):
+    """The definition that is promised and its arguments: what stands behind an ≡, else all."""
+    if "≡" in parts:
+        parts = parts[parts.index("≡") + 1 :]
+    return parts[0], parts[1:]
+
+
+def words_of(parts):
+    """All words of a statement, in order."""
+    for part in parts:
+        if isinstance(part, list):
+            yield from words_of(part)
+        else:
+            yield part
+
+
+def fit(general, special):
+    """How closely a theorem's arguments are those of a contract; None where they are not.
+
+    A word of the theorem stands for anything. A bracket is met by one with as many parts and, if it
+    has one part, the same first word.
+    """
+    if len(general) != len(special):
+        return None
+    score = 0
+    for g, s in zip(general, special):
+        if not isinstance(g, list):
+            continue
+        if not isinstance(s, list) or len(g) != len(s):
+            return None
+        if len(g) == 1 and g[0][0] != s[0][0]:
+            return None
+        score += 1
+    return score
+
+
+# ---- the columns
+
+
+class Register:
+    """All crates, and what the rows say of them."""
+
+    def __init__(self):
+        names = sorted(os.listdir(sources.CRATES))
+        self.crates = {n: c for n, c in ((n, sources.Crate(n)) for n in names) if c.is_library}
+        self.problems = Problems()
+        self.named_edits = set()
+
+    def imports(self, item):
+        crate = self.crates[item.crate]
+        return sources.imports_of(crate.sources[sources.file_of(item.module)])
+
+    def answers(self, item):
+        text = " ".join(item.comment)
+        if not text:
+            self.problems.say(f"{item.crate}::{item.name} has no comment directly above it")
+        return text
+
+    def promised(self, item):
+        """The definitions that a contract names: (name, crate, file) of each conjunct, in order."""
+        imports = self.imports(item)
+        found = []
+        for statement in item.ensures:
+            for parts in conjuncts(bare(statement)):
+                names = sources.names_in(" ".join(words_of(parts)), imports)
+                found.append([(n, *place) for n, place in names if place and self.tells(n, *place)])
+        return [names for names in found if names]
+
+    def tells(self, name, crate, file):
+        """Not of a row: how outcomes are joined, how an answer is one, and C's plain numbers."""
+        if crate == "outcome" or name.endswith("Outcome"):
+            return False
+        if (crate, file) != ("c_values", "arguments/Numbers.antt"):
+            return True
+        return "Outcome" in self.crates[crate].definition(file, name).type
+
+    def promise_column(self, item):
+        return " and ".join(self.promise_text(names, item) for names in self.promised(item)) or (
+            f"`{bare(item.ensures[0])}`" if item.ensures else ""
+        )
+
+    def promise_text(self, names, item):
+        """`Promise` (its file) of `others` (theirs); a file stands behind the last of its names."""
+        said, texts = "", []
+        for k, (name, crate, file) in enumerate(names):
+            place = file if crate == item.crate else f"{crate}: {file}"
+            last_of_file = k + 1 == len(names) or names[k + 1][1:] != (crate, file)
+            in_head = crate == "c_values" and name == "HandsOver"
+            texts.append(f"`{name}`" + (f" ({place})" if last_of_file and not in_head else ""))
+        said = texts[0]
+        return said + (" of " + ", ".join(texts[1:]) if texts[1:] else "")
+
+    def theorem_column(self, item):
+        found = self.theorem(item)
+        if not found:
+            self.problems.say(f"{item.crate}::{item.name} has no theorem of one outcome")
+            return "**none found**"
+        crate, theorem = found
+        place = theorem.file if crate == item.crate else f"{crate}: {theorem.file}"
+        return f"`{theorem.name}` ({place})"
+
+    def theorem(self, item):
+        """The closest theorem whose type has the promise, of its crate before those that it names."""
+        places = [item.crate] + [place[0] for place in self.imports(item).values() if place]
+        best = None
+        for statement in item.ensures:
+            name, arguments = application(conjuncts(bare(statement))[0])
+            for crate in dict.fromkeys(p for p in places if p in self.crates):
+                for theorem in self.crates[crate].theorems:
+                    score = self.score(theorem, name.split(".")[-1], arguments)
+                    if score is not None and (best is None or score > best[0]):
+                        best = score, crate, theorem
+        return best and best[1:]
+
+    def score(self, theorem, name, arguments):
+        for premise in theorem.type.split(" → "):
+            parts = parsed(premise)
+            if name in parts:
+                return fit(application(parts)[1], arguments)
+        return None
+
+    # ---- wrong edits
+
+    def edited_item(self, edit):
+        """The function or the constant that an edit makes wrong."""
+        crate = self.crates[edit.crate]
+        for item in crate.items:
+            file = "src/" + sources.file_of(item.module)
+            if file == edit.file and edit.old in crate.text_of(item) + "\n":
+                return item
+        return None
+
+    def edited_definition(self, edit):
+        for d in self.crates[edit.crate].definitions:
+            if "specs/" + d.file == edit.file and edit.old in d.text:
+                return d
+        return None
+
+    def edits_of(self, item):
+        """(edit, whether of a definition): of its body all, then the nearest, three at the most."""
+        crate = self.crates[item.crate]
+        steps = nearest_first([item], crate.named_by)
+        found = [(e, False) for step in steps for e in self.edits_at(crate, step, self.edited_item)]
+        own = [(e, False) for e in crate.edits if self.edited_item(e) is item]
+        text = crate.sources[sources.file_of(item.module)]
+        begin = crate.resolved(" ".join(item.ensures), text)
+        steps = nearest_first(begin, crate.defined_by)
+        found += [(e, True) for s in steps for e in self.edits_at(crate, s, self.edited_definition)]
+        return found[: max(MOST_EDITS, len(own))]
+
+    def edits_at(self, crate, places, edited):
+        return [e for e in crate.edits if any(edited(e) is place for place in places)]
+
+    def edits_column(self, item):
+        edits = self.edits_of(item)
+        self.named_edits.update((e.crate, e.label) for e, _ in edits)
+        return "; ".join(edit_text(e, of_definition) for e, of_definition in edits) or "none"
+
+    def not_named(self, crate):
+        return [e for e in crate.edits if (e.crate, e.label) not in self.named_edits]
+
+
+def nearest_first(begin, named_by):
+    """What is reached from the beginning, a step at a time: each step's in one list."""
+    seen, step = list(begin), list(begin)
+    while step:
+        yield step
+        reached = [other for one in step for other in named_by(one)]
+        step = []
+        for other in reached:
+            if not any(other is one for one in seen):
+                seen.append(other)
+                step.append(other)
+
+
+def edit_text(edit, of_definition):
+    says = edit.comment or edit.label.replace("_", " ")
+    return f"`{edit.label}`{' (*def*)' if of_definition else ''}: {says}"
+
+
+# ---- the document
+
+
+def chapters(register):
+    """Those of document 01; a crate that none has comes in one at the end, if it says anything."""
+    known = {name for _, names in CHAPTERS for name in names}
+    rest = [n for n, c in register.crates.items() if n not in known and (entry_points(c) or c.edits)]
+    every = CHAPTERS + ([("Other", rest)] if rest else [])
+    return [(title, [n for n in names if n in register.crates]) for title, names in every]
+
+
+def row(cells):
+    return "| " + " | ".join(cell.replace("|", "\\|") for cell in cells) + " |"
+
+
+def section(register, crate, marked):
+    lines = [f"## {crate.name}", "", crate.head(), ""]
+    entries = entry_points(crate)
+    if entries:
+        lines += [row(["entry point", "answers", "promise", "one outcome", "wrong answers"])]
+        lines += ["|---|---|---|---|---|"]
+    for item in entries:
+        mark = " †" if (crate.name, item.name) in marked else ""
+        lines.append(
+            row(
+                [
+                    f"`{item.name}`{mark}",
+                    register.answers(item),
+                    register.promise_column(item),
+                    register.theorem_column(item),
+                    register.edits_column(item),
+                ]
+            )
+        )
+    if entries:
+        lines.append("")
+    rest = register.not_named(crate)
+    if rest:
+        texts = [edit_text(e, e.file.startswith("specs/")) for e in rest]
+        lines += [("Also refused: " if entries else "Refused: ") + "; ".join(texts) + ".", ""]
+    return lines
+
+
+def inner_table(register, titles):
+    lines = ["## Inner functions", ""]
+    lines += ["Public because another crate of the register calls them; nobody else may. Each asks for"]
+    lines += ["what its caller has checked, so that a loop checks once.", ""]
+    lines += [row(["crate", "function", "what it answers, and what it asks for"]), "|---|---|---|"]
+    for _, names in titles:
+        for name in names:
+            for item in inner_functions(register.crates[name]):
+                says = " ".join(item.comment).replace("Inner: ", "", 1)
+                lines.append(row([f"`{name}`", f"`{item.name}`", says[:1].upper() + says[1:]]))
+    return lines + [""]
+
+
+def contents(titles):
+    lines = ["## Contents", "", row(["document 01", "crates"]), "|---|---|"]
+    for title, names in titles:
+        lines.append(row([title, ", ".join(f"[`{n}`](#{n})" for n in names)]))
+    return lines + [""]
+
+
+def counts(register):
+    every = [i for c in register.crates.values() for i in entry_points(c)]
+    inner = [i for c in register.crates.values() for i in inner_functions(c)]
+    edits = sum(len(c.edits) for c in register.crates.values())
+    for_c = len([i for i in every if i.for_c])
+    return f"{len(every)} entry points, {for_c} of them for C; {len(inner)} inner functions; {edits} wrong edits."
+
+
+def check_head(register, head):
+    """What the head names must be there; those in its exception are marked in their rows."""
+    every = {(c.name, i.name) for c in register.crates.values() for i in entry_points(c)}
+    edits = {(e.crate, e.label) for c in register.crates.values() for e in c.edits}
+    for name in NAMED_ENTRY_POINT.findall(head):
+        if name not in every:
+            register.problems.say("the head names %s::%s, which is no entry point" % name)
+    for name in NAMED_EDIT.findall(head):
+        if name not in edits:
+            register.problems.say("the head names %s/%s, which is no wrong edit" % name)
+    exception = head.split(EXCEPTION, 1)[-1].split("\n## ", 1)[0]
+    return set(NAMED_ENTRY_POINT.findall(exception))
+
+
+def document(register):
+    head = sources.read(HEAD)
+    marked = check_head(register, head)
+    titles = chapters(register)
+    lines = [head.rstrip("\n"), ""] + contents(titles) + [counts(register), ""]
+    for _, names in titles:
+        for name in names:
+            lines += section(register, register.crates[name], marked)
+    return "\n".join(lines + inner_table(register, titles)).rstrip("\n") + "\n"
+
+
+def stale_lines(old, new):
+    changed = difflib.unified_diff(old.splitlines(), new.splitlines(), "is", "should be", "", "", 0)
+    return [line for line in changed if not line.startswith("@@")]
+
+
+def tell_without_edit(register):
+    """A count and the names, on standard error: it makes nothing fail."""
+    without = []
+    for crate in register.crates.values():
+        without += [f"{crate.name}::{i.name}" for i in entry_points(crate) if not register.edits_of(i)]
+    if without:
+        print(f"{len(without)} entry points without an edit of their own crate:", file=sys.stderr)
+        print("  " + "\n  ".join(without), file=sys.stderr)
+
+
+def main():
+    register = Register()
+    text = document(register)
+    stale = []
+    if "--check" in sys.argv:
+        stale = stale_lines(sources.read(DOCUMENT) if os.path.exists(DOCUMENT) else "", text)
+    else:
+        with open(DOCUMENT, "w", encoding="utf-8") as file:
+            file.write(text)
+    for line in stale:
+        print(line)
+    for problem in register.problems:
+        print("contracts: " + problem)
+    tell_without_edit(register)
+    sys.exit(1 if stale or register.problems else 0)
+
+
+if __name__ == "__main__":
+    main()

@@ -74,7 +74,7 @@ fn terms_with(note: Note) -> Terms
     let rule = note.business_day_rule;
     Terms {
         unit: packed_codes::code_of_unit(unit),
-        number: number_text::magnitude(period.num),
+        number: outcome::magnitude(period.num),
         convention: packed_codes::code_of_convention(convention),
         adjustment: rule_code(rule),
     }

@@ -10,6 +10,7 @@ the contract of each function that its door hands on (src), the definitions that
 It ends with 1 as well where an entry point has no theorem or no comment, or where the head names
 what there is not. On standard error it counts the entry points without an edit of their own crate.
 """
+import collections
 import difflib
 import os
 import re
@@ -39,7 +40,7 @@ CHAPTERS = [
     ("Listing", ["note_listing"]),
     ("Text", ["number_text", "decimal", "term_text", "flow_text"]),
     ("The C face", ["c_face", "c_values"]),
-    ("Laws that the others rest on, and the desk card", ["outcome", "rounding", "desk_card"]),
+    ("What the others rest on, and the desk card", ["outcome", "rounding", "desk_card"]),
 ]
 C_FACE = "c_face"
 MOST_EDITS = 3
@@ -156,6 +157,11 @@ class Register:
         self.crates = {n: c for n, c in ((n, sources.Crate(n)) for n in names) if c.is_library}
         self.problems = Problems()
         self.named_edits = set()
+        self.edited = {}
+        self.reached = collections.Counter()
+        for crate in self.crates.values():
+            self.place_edits(crate)
+            self.count_reached(crate)
 
     def imports(self, item):
         crate = self.crates[item.crate]
@@ -179,7 +185,7 @@ class Register:
 
     def tells(self, name, crate, file):
         """Not of a row: how outcomes are joined, how an answer is one, and C's plain numbers."""
-        if crate == "outcome" or name.endswith("Outcome"):
+        if (crate, file) == ("outcome", "Outcome.antt") or name.endswith("Outcome"):
             return False
         if (crate, file) != ("c_values", "arguments/Numbers.antt"):
             return True
@@ -232,35 +238,45 @@ class Register:
 
     # ---- wrong edits
 
-    def edited_item(self, edit):
-        """The function or the constant that an edit makes wrong."""
-        crate = self.crates[edit.crate]
-        for item in crate.items:
-            file = "src/" + sources.file_of(item.module)
-            if file == edit.file and edit.old in crate.text_of(item) + "\n":
-                return item
-        return None
-
-    def edited_definition(self, edit):
-        for d in self.crates[edit.crate].definitions:
-            if "specs/" + d.file == edit.file and edit.old in d.text:
-                return d
-        return None
+    def place_edits(self, crate):
+        """Which item or definition of a crate each of its edits makes wrong."""
+        for edit in crate.edits:
+            text = crate.text(edit.file)
+            if edit.old not in text:
+                self.problems.say(f"{edit.crate}/{edit.label}: its old text is not in {edit.file}")
+            at = text.find(edit.old) + len(edit.old) - len(edit.old.lstrip())
+            for place in crate.places(edit.file):
+                if edit.old in text and place.start <= at < place.end:
+                    self.edited.setdefault(id(place), []).append(edit)
 
     def edits_of(self, item):
-        """(edit, whether of a definition): of its body all, then the nearest, three at the most."""
-        crate = self.crates[item.crate]
-        steps = nearest_first([item], crate.named_by)
-        found = [(e, False) for step in steps for e in self.edits_at(crate, step, self.edited_item)]
-        own = [(e, False) for e in crate.edits if self.edited_item(e) is item]
-        text = crate.sources[sources.file_of(item.module)]
-        begin = crate.resolved(" ".join(item.ensures), text)
-        steps = nearest_first(begin, crate.defined_by)
-        found += [(e, True) for s in steps for e in self.edits_at(crate, s, self.edited_definition)]
-        return found[: max(MOST_EDITS, len(own))]
+        """(edit, whether of a definition): of its body all, then the nearest, three at the most.
 
-    def edits_at(self, crate, places, edited):
-        return [e for e in crate.edits if any(edited(e) is place for place in places)]
+        Of two as near, the one that fewer entry points reach comes first.
+        """
+        crate = self.crates[item.crate]
+        found = [(e, False) for e in self.edits_from([item], crate.named_by)]
+        found += [(e, True) for e in self.edits_from(self.begin(item), crate.defined_by)]
+        return found[: max(MOST_EDITS, len(self.edited.get(id(item), [])))]
+
+    def begin(self, item):
+        """The definitions of its own crate that an item's contract names."""
+        crate = self.crates[item.crate]
+        text = crate.sources[sources.file_of(item.module)]
+        return crate.resolved(" ".join(item.ensures), text)
+
+    def edits_from(self, begin, named_by):
+        for step in nearest_first(begin, named_by):
+            step.sort(key=lambda place: self.reached[id(place)])
+            for place in step:
+                yield from self.edited.get(id(place), [])
+
+    def count_reached(self, crate):
+        """How many entry points of a crate reach each of its items and definitions."""
+        for item in entry_points(crate):
+            for begin, named_by in ([item], crate.named_by), (self.begin(item), crate.defined_by):
+                for step in nearest_first(begin, named_by):
+                    self.reached.update(id(place) for place in step)
 
     def edits_column(self, item):
         edits = self.edits_of(item)
@@ -273,15 +289,12 @@ class Register:
 
 def nearest_first(begin, named_by):
     """What is reached from the beginning, a step at a time: each step's in one list."""
-    seen, step = list(begin), list(begin)
+    seen, step = set(), list(begin)
     while step:
-        yield step
-        reached = [other for one in step for other in named_by(one)]
-        step = []
-        for other in reached:
-            if not any(other is one for one in seen):
-                seen.append(other)
-                step.append(other)
+        yield list(step)
+        seen.update(id(one) for one in step)
+        reached = {id(other): other for one in step for other in named_by(one)}
+        step = [other for key, other in reached.items() if key not in seen]
 
 
 def edit_text(edit, of_definition):

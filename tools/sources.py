@@ -18,6 +18,8 @@ ITEM = re.compile(
 HANDED_ON = re.compile(r"^pub use (?P<module>\w+(?:::\w+)*)::(?P<name>\w+);", re.M)
 # An item of the same crate brought in: `use crate::module::item;`.
 BROUGHT_IN = re.compile(r"^use crate::(?P<module>\w+(?:::\w+)*)::(?P<name>\w+);", re.M)
+# An item of another crate brought in: `use other::ITEM;`.
+FROM_ANOTHER = re.compile(r"^use (?!crate::)(?:\w+::)+(?P<name>\w+);", re.M)
 # A name in Rattle, with the modules before it.
 RATTLE_PATH = re.compile(r"\w+(?:::\w+)*")
 # A function's result, up to its contract or its body; and a clause of a contract.
@@ -41,7 +43,7 @@ SPECIFICATION = re.compile(r"^Rattle·(?P<crate>\w+)(?:·specs)?\.specs\.(?P<fil
 
 @dataclass
 class Item:
-    """A function or a constant of a source file."""
+    """A function, a constant or a name brought in from another crate, of a source file."""
 
     crate: str
     module: str
@@ -136,7 +138,7 @@ def read_contract(plain, at, item):
 
 
 def items_of(crate, module, text):
-    """The functions and constants of a source file."""
+    """The functions, constants and names from other crates of a source file."""
     plain = without_comments(text)
     found = []
     for m in ITEM.finditer(plain):
@@ -154,6 +156,10 @@ def items_of(crate, module, text):
             read_contract(plain, m.end(), item)
         else:
             item.end = plain.index(";", plain.index("=", m.end())) + 1
+        found.append(item)
+    for m in FROM_ANOTHER.finditer(plain):
+        item = Item(crate, module, m.group("name"), False, False, False, [])
+        item.start, item.end = m.span()
         found.append(item)
     return found
 
@@ -244,6 +250,18 @@ class Crate:
     def texts(self, part, ending):
         folder = os.path.join(self.folder, part)
         return {f: read(os.path.join(folder, f)) for f in files_below(folder, ending)}
+
+    def text(self, file):
+        """The text of `src/..` or `specs/..`."""
+        part, _, name = file.partition("/")
+        return (self.sources if part == "src" else self.specs).get(name, "")
+
+    def places(self, file):
+        """What stands in `src/..` or `specs/..`: items or definitions."""
+        part, _, name = file.partition("/")
+        if part == "src":
+            return [i for i in self.items if file_of(i.module) == name]
+        return [d for d in self.definitions if d.file == name]
 
     def head(self):
         """What the first lines of its door say."""

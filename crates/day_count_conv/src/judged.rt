@@ -13,11 +13,12 @@ use crate::conventions::YearFraction;
 use calendar::Date;
 use time_period::TimePeriod;
 
-// Inner: of dates already judged, the start not after the end, so that a rollout does not judge its own dates.
+// Inner: the year fraction; asks for dates in order, and under ICMA a roll date that exists.
 pub fn fraction_judged(rule: DayCountConv, start: Date, end: Date, x: NoteTerms) -> YearFraction
     requires { ⌜ (Span start end) × (rollDated rule (x .roll) ≡ true) ⌝ }
     ensures { λ r. ⌜ fractionOutcome r ≡ byRule fractionsInF64 rule start end x ⌝ }
 {
+    // A rollout does not judge its own dates again.
     match rule {
         DayCountConv::Act365 => YearFraction::Fraction(day_fraction::calc_act_365(start, end)),
         DayCountConv::Act360 => YearFraction::Fraction(day_fraction::calc_act_360(start, end)),
@@ -39,11 +40,12 @@ pub fn fraction_judged(rule: DayCountConv, start: Date, end: Date, x: NoteTerms)
     }
 }
 
-// Inner: of a period from a date to the one that it leads to, rolled from its start, so that a rollout steps once.
+// Inner: the fraction of a period rolled from its start; asks for dates in order, a period apart.
 pub fn fraction_of_period(rule: DayCountConv, p: TimePeriod, from: Date, to: Date) -> YearFraction
     requires { ⌜ (Span from to) × (step p from ≡ given to) ⌝ }
     ensures { λ r. ⌜ fractionOutcome r ≡ byRule fractionsInF64 rule from to (rolledFrom from p) ⌝ }
 {
+    // A rollout steps once.
     if let DayCountConv::ActActICMA = rule {
         return crate::conventions::whole_period(p);
     }

@@ -40,7 +40,7 @@ pub const MALFORMED_RECORD: u32 = 18;
 
 pub const START_AFTER_END: u32 = 19;
 
-// A number without its sign; the least number has one too: 2,147,483,648.
+// A number without its sign, 2,147,483,648 for the least.
 pub fn magnitude(n: i32) -> u32
     ensures { λ r. ⌜ MagnitudePromise n r ⌝ }
 {

@@ -7,14 +7,16 @@
 It reads docs/contracts-head.md, which is the file's beginning, and of every library: the comment and
 the contract of each function that its door hands on (src), the definitions that the contracts name
 (specs), the theorems of one outcome (proofs/**/OneOutcome.antt) and the wrong edits (must-fail).
-It ends with 1 as well where an entry point has no theorem or no comment, or where the head names
-what there is not. On standard error it counts the entry points without an edit of their own crate.
+It ends with 1 as well where an entry point has no theorem or no comment, where an edit's old text
+is not in its file, where a door lists a function on the wrong side of `// Inner:`, or where the head
+names what there is not. On standard error it counts the entry points without an edit of their own crate.
 """
 import collections
 import difflib
 import os
 import re
 import sys
+import textwrap
 
 sys.dont_write_bytecode = True
 
@@ -33,8 +35,8 @@ CHAPTERS = [
     ("The note", ["bond"]),
     ("Rollout", ["note_flows", "rollout"]),
     ("Accrued interest", ["accrued_interest"]),
-    ("`round2digits` and comparison", ["cash_flow"]),
-    ("`Simple`", ["rates"]),
+    ("Rounding and comparison of amounts", ["cash_flow"]),
+    ("Simple discounting", ["rates"]),
     ("Flows after a date", ["fixed_income"]),
     ("Packed note", ["bit_fields", "packed_codes", "packed_read", "packed_write", "packed_round_trips"]),
     ("Listing", ["note_listing"]),
@@ -43,7 +45,9 @@ CHAPTERS = [
     ("What the others rest on, and the desk card", ["outcome", "rounding", "desk_card"]),
 ]
 C_FACE = "c_face"
+INNER = "// Inner:"
 MOST_EDITS = 3
+WIDTH = 100
 # The head speaks of an entry point as `crate::name` and of a wrong edit as `crate/label`.
 NAMED_ENTRY_POINT = re.compile(r"`(\w+)::(\w+)`")
 NAMED_EDIT = re.compile(r"`(\w+)/(\w+)`")
@@ -160,8 +164,16 @@ class Register:
         self.edited = {}
         self.reached = collections.Counter()
         for crate in self.crates.values():
+            self.check_door(crate)
             self.place_edits(crate)
             self.count_reached(crate)
+
+    def check_door(self, crate):
+        """Under `// Inner:` a door hands on inner functions, and above it all others."""
+        _, _, below = crate.sources["lib.rt"].partition("\n" + INNER)
+        for item in crate.handed_on():
+            if item.module and (f"::{item.name};" in below) != item.is_inner:
+                self.problems.say(f"{crate.name}::{item.name} stands on the wrong side of `{INNER}`")
 
     def imports(self, item):
         crate = self.crates[item.crate]
@@ -180,8 +192,12 @@ class Register:
         for statement in item.ensures:
             for parts in conjuncts(bare(statement)):
                 names = sources.names_in(" ".join(words_of(parts)), imports)
-                found.append([(n, *place) for n, place in names if place and self.tells(n, *place)])
+                names = [(n, *self.standing(n, place)) for n, place in names if place]
+                found.append([name for name in names if self.tells(*name)])
         return [names for names in found if names]
+
+    def standing(self, name, place):
+        return self.crates[place[0]].standing(name, place) if place[0] in self.crates else place
 
     def tells(self, name, crate, file):
         """Not of a row: how outcomes are joined, how an answer is one, and C's plain numbers."""
@@ -318,7 +334,7 @@ def row(cells):
 
 
 def section(register, crate, marked):
-    lines = [f"## {crate.name}", "", crate.head(), ""]
+    lines = [f"## {crate.name}", "", textwrap.fill(crate.head(), WIDTH), ""]
     entries = entry_points(crate)
     if entries:
         lines += [row(["entry point", "answers", "promise", "one outcome", "wrong answers"])]
@@ -347,15 +363,25 @@ def section(register, crate, marked):
 
 def inner_table(register, titles):
     lines = ["## Inner functions", ""]
-    lines += ["Public because another crate of the register calls them; nobody else may. Each asks for"]
-    lines += ["what its caller has checked, so that a loop checks once.", ""]
-    lines += [row(["crate", "function", "what it answers, and what it asks for"]), "|---|---|---|"]
+    lines += ["These are public because another crate of the register calls them; nobody else may."]
+    lines += ["What one asks for, its caller has checked, so that a loop checks once.", ""]
+    lines += [row(["crate", "function", "answers", "asks for"]), "|---|---|---|---|"]
     for _, names in titles:
         for name in names:
             for item in inner_functions(register.crates[name]):
-                says = " ".join(item.comment).replace("Inner: ", "", 1)
-                lines.append(row([f"`{name}`", f"`{item.name}`", says[:1].upper() + says[1:]]))
+                lines.append(row([f"`{name}`", f"`{item.name}`", *inner_cells(item)]))
     return lines + [""]
+
+
+def inner_cells(item):
+    """What an inner function answers and what it asks for, by `Inner: ..; asks for ..`."""
+    says = " ".join(item.comment).replace("Inner: ", "", 1).rstrip(".")
+    answers, _, asks = says.partition("; asks for ")
+    if not item.requires:
+        asks = asks or "nothing"
+    elif not asks:
+        asks = " and ".join(f"`{bare(clause)}`" for clause in item.requires)
+    return answers[:1].upper() + answers[1:], asks
 
 
 def contents(titles):
@@ -381,7 +407,7 @@ def check_head(register, head):
         if name not in every:
             register.problems.say("the head names %s::%s, which is no entry point" % name)
     for name in NAMED_EDIT.findall(head):
-        if name not in edits:
+        if name[0] in register.crates and name not in edits:
             register.problems.say("the head names %s/%s, which is no wrong edit" % name)
     exception = head.split(EXCEPTION, 1)[-1].split("\n## ", 1)[0]
     return set(NAMED_ENTRY_POINT.findall(exception))

@@ -34,8 +34,11 @@ DEFINED = re.compile(
     r"(?P<name>[^\s({:]+) [^=\n]*: ?",
     re.M,
 )
-# `use PATH.{a, b}` and `use PATH as x`, in a specification or, as `ghost use`, in a source.
-USED_NAMES = re.compile(r"^(?:ghost )?use (?P<path>\S+)\.\{(?P<names>[^}]*)\}", re.M)
+# `use PATH.{a, b}` and `use PATH as x`, in a specification or, as `ghost use`, in a source. A
+# specification hands on what it brings in by `pub use`.
+USED_NAMES = re.compile(
+    r"^(?:ghost |unfoldable )?(?:pub )?use (?P<path>\S+)\.\{(?P<names>[^}]*)\}", re.M
+)
 USED_AS = re.compile(r"^(?:ghost )?use (?P<path>\S+) as (?P<name>[^\s;]+)", re.M)
 # A specification of the register: `Rattle.crate.specs.a.B`, or `Rattle.crate.specs.a.B`.
 SPECIFICATION = re.compile(r"^Rattle·(?P<crate>\w+)(?:·specs)?\.specs\.(?P<file>.+)$")
@@ -341,10 +344,20 @@ class Crate:
         """The definitions of this crate that a statement names, by the `use` lines of its text."""
         found = []
         for name, place in names_in(statement, imports_of(text), (self.name, file)):
+            place = self.standing(name, place)
             d = self.definition(place[1], name) if place and place[0] == self.name else None
             if d and d not in found:
                 found.append(d)
         return found
+
+    def standing(self, name, place):
+        """Where a name of this crate is defined: a specification may hand on another's."""
+        while place and place[0] == self.name and not self.definition(place[1], name):
+            further = imports_of(self.specs.get(place[1], "")).get(name)
+            if not further or further == place:
+                break
+            place = further
+        return place
 
 
 def module_of(file):

@@ -73,7 +73,7 @@ pub fn put_decimal(n: u64, out: &mut [u8], at: usize) -> usize
     put_digits(n, decimal_length(n), out, at)
 }
 
-// Inner: n with leading zeros to at least `width` digits at a place; asks for room.
+// Inner: the number n with leading zeros to at least `width` digits at a place; asks for room.
 pub fn put_padded(n: u64, width: usize, out: &mut [u8], at: usize) -> usize
     requires { ⌜ at + length (paddedText width n) ≤ length (now out) ⌝ }
     ensures { λ r. ⌜ Wrote (now (out .entry)) (now (out .exit)) at (paddedText width n) r ⌝ }

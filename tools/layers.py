@@ -24,18 +24,21 @@ def read(name):
 
 
 def layers(text):
-    """[(layer, [(crate, the crates that it names)])]: a comment of one word begins a layer."""
-    found = []
+    """[(layer, [(crate, the crates that it names)])]: a comment right above a crate names a layer."""
+    found = [("", [])]
+    comment = ""
     for line in text.splitlines():
-        words = line.split()
-        if len(words) == 2 and words[0] == "#":
-            found.append((words[1], []))
-        elif ":" in line and not line.startswith("#"):
+        if line.startswith("#"):
+            comment = line[1:].strip()
+        elif ":" in line:
+            if comment:
+                found.append((comment, []))
             name, _, named = line.partition(":")
-            if not found:
-                found.append(("", []))
             found[-1][1].append((name.strip(), named.split()))
-    return found
+            comment = ""
+        else:
+            comment = ""
+    return [layer for layer in found if layer[1]]
 
 
 def broken_rules(found):

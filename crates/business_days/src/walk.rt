@@ -16,10 +16,10 @@ const FIRST_DAY: u32 = 1;
 
 const WHOLE: u64 = 4294967296;
 
-// Of the whole, rounded up.
+// A seventh of WHOLE, rounded up.
 const SEVENTH: u64 = 613566757;
 
-// From there on it is Saturday, the sixth day of a week, or Sunday.
+// Five sevenths of WHOLE: from there on it is Saturday, the sixth day of a week, or Sunday.
 const FIVE_SEVENTHS: u64 = 3067833785;
 
 // Times a seventh, whole weeks are whole numbers and fall away, but for less than a seventh: no division is left.

@@ -1,5 +1,5 @@
-// The C face: the entry points over numbers, bytes and lent slices. What is returned is the refusal's number, or 0 for an answer,
-// and only then is what is lent written.
+// The C face: the entry points over numbers, bytes and lent slices. Each returns the refusal's
+// number, or 0 for an answer, and only then writes what is lent.
 ghost use mathlib.Core.Path.{_≡_};
 ghost use mathlib.Core.Bool.{true};
 ghost use lib.ListN.{length};

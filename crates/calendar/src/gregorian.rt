@@ -469,7 +469,7 @@ pub fn days_before_month(year: u32, month: u32) -> u32
     if is_leap(year) { common + 1 } else { common }
 }
 
-// The whole table.
+// The table, whose rule is proved here once for all 400 entries.
 fn first_of_years() -> [u32; 400]
     ensures { λ r. ⌜ ((k : ℕ) → k < 400 → getD r k 0 ≡ beforeYear (suc k) + 1) ⌝ }
 {

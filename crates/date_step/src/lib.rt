@@ -81,7 +81,7 @@ pub fn add_months(t: Date, n: i32) -> DateAnswer
     }
 }
 
-// A date, where there is one.
+// The date itself where it exists; else refused 1.
 fn existing(t: Date) -> DateAnswer
     ensures { λ r. ⌜ dateOutcome r ≡ existingDate t ⌝ }
 {

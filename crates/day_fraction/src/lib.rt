@@ -1,4 +1,5 @@
-// The five day-count rules of finql's day_count_conv.rs that need two dates alone, for dates that are already judged.
+// The five day-count rules of finql's day_count_conv.rs that need two dates alone, for dates that
+// are already judged.
 ghost use mathlib.Core.Path.{_≡_};
 ghost use mathlib.Core.Bool.{true};
 ghost use Prim.Native.Nat.{_≤_};

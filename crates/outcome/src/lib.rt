@@ -1,5 +1,5 @@
-// The numbers a clerk may see: each refusal of the register has one of them, and finql's name where it has one.
-// Lent room: laws only. What stands in a lent list once others are written into it from its front.
+// The numbers a clerk may see, one for each refusal, with finql's name where it has one; and a
+// number's magnitude. The laws of outcomes and of lent room have no code.
 ghost use Rattle.outcome.specs.Signs.{MagnitudePromise};
 
 pub const INVALID_DATE: u32 = 1;

@@ -49,7 +49,7 @@ fn is_business(unit: TimePeriodUnit) -> bool
     }
 }
 
-// 13, 14 and 12, the last whether there is a table or not.
+// Refused 13, 14, 12 in this order; 12 whether there is a table or not.
 fn check_period(note: Note, table: bool) -> NoteAnswer
     ensures { λ r. ⌜ noteOutcome r ≡ periodChecks table note ⌝ }
 {

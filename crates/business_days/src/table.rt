@@ -9,7 +9,7 @@ ghost use lib.ListN.{length};
 ghost use Rattle.business_days.specs.days.Answers.{TablePromise};
 use calendar::LAST_DAY;
 
-// No place of a table, and none is near it.
+// The place in a bad table: past every place of a good one.
 pub const NOWHERE: usize = 4097;
 
 // Inner: the place of the first holiday not before a day, by halving; asks for ascending holidays.

@@ -45,7 +45,7 @@ fn holiday_before(table: &[u32], i: usize) -> u32
     if 0 < i { table[i - 1] } else { 0 }
 }
 
-// Inner: the first holiday not before a day, from a place near it; asks for ascending holidays.
+// Inner: the first place not before a day, from one near it; asks for ascending holidays.
 pub fn lower_bound_from(table: &[u32], n: u32, near: usize) -> usize
     requires { ⌜ ascending (now table) ≡ true ⌝ }
     ensures { λ r. ⌜ IsLowerBound (now (table .entry)) n r ⌝ }

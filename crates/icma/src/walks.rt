@@ -133,7 +133,7 @@ fn skip_back(q: TimePeriod, from: Date, limit: Date) -> Walked
     Walked { at, count }
 }
 
-// Inner: on until not before the limit; asks for a period above 0 and a count up to the day.
+// Inner: on until not before the limit; asks for a period above 0 and a count up to its day.
 pub(crate) fn walk_on(p: TimePeriod, from: Walked, limit: Date) -> WalkAnswer
     requires { ⌜ (isDate (from .at) ≡ true) × (from .count ≤ dayNumber (from .at)) × (ltZ (pos 0) (p .num) ≡ true) ⌝ }
     ensures { λ r. ⌜ walkOutcome r ≡ walk 3652060 (λ u. isBefore u limit) (turnOn p limit) from ⌝ }

@@ -4,12 +4,13 @@
   tools/contracts.py          writes the file
   tools/contracts.py --check  prints the lines that are stale, and ends with 1 where there are any
 
-It reads docs/contracts-head.md, which is the file's beginning, and of every library: the comment and
-the contract of each function that its door hands on (src), the definitions that the contracts name
-(specs), the theorems of one outcome (proofs/**/OneOutcome.antt) and the wrong edits (must-fail).
-It ends with 1 as well where an entry point has no theorem or no comment, where an edit's old text
-is not in its file, where a door lists a function on the wrong side of `// Inner:`, or where the head
-names what there is not. On standard error it counts the entry points without an edit of their own crate.
+It reads docs/contracts-head.md, which is the file's beginning, and of every library: the comment
+and the contract of each function that its door hands on (src), the definitions that the contracts
+name (specs), the theorems of one outcome (proofs/**/OneOutcome.antt) and the wrong edits
+(must-fail). It ends with 1 as well where an entry point has no theorem or no comment, where an
+edit's old text is not in its file, where a door lists a function on the wrong side of `// Inner:`,
+or where the head names what there is not. On standard error it counts the entry points without an
+edit of their own crate.
 """
 import collections
 import difflib
@@ -38,7 +39,10 @@ CHAPTERS = [
     ("Rounding and comparison of amounts", ["cash_flow"]),
     ("Simple discounting", ["rates"]),
     ("Flows after a date", ["fixed_income"]),
-    ("Packed note", ["bit_fields", "packed_codes", "packed_read", "packed_write", "packed_round_trips"]),
+    (
+        "Packed note",
+        ["bit_fields", "packed_codes", "packed_read", "packed_write", "packed_round_trips"],
+    ),
     ("Listing", ["note_listing"]),
     ("Text", ["number_text", "decimal", "term_text", "flow_text"]),
     ("The C face", ["c_face", "c_values"]),
@@ -118,7 +122,7 @@ def application(parts):
     """The definition that is promised and its arguments: what stands behind an ≡, else all."""
     if "≡" in parts:
         parts = parts[parts.index("≡") + 1 :]
-    return parts[0], parts[1:]
+    return (parts[0], parts[1:]) if parts else ("", [])
 
 
 def words_of(parts):
@@ -144,10 +148,17 @@ def fit(general, special):
             continue
         if not isinstance(s, list) or len(g) != len(s):
             return None
-        if len(g) == 1 and g[0][0] != s[0][0]:
+        if len(g) == 1 and g[0][:1] != s[0][:1]:
             return None
         score += 1
     return score
+
+
+def closeness(theorem, name, arguments):
+    """How closely a theorem speaks of two answers that meet a promise; None where it does not."""
+    premises = [application(parsed(premise)) for premise in theorem.type.split(" → ")]
+    met = [of for promise, of in premises if promise == name]
+    return fit(met[0], arguments) if len(met) >= 2 else None
 
 
 # ---- the columns
@@ -173,7 +184,8 @@ class Register:
         _, _, below = crate.sources["lib.rt"].partition("\n" + INNER)
         for item in crate.handed_on():
             if item.module and (f"::{item.name};" in below) != item.is_inner:
-                self.problems.say(f"{crate.name}::{item.name} stands on the wrong side of `{INNER}`")
+                name = f"{crate.name}::{item.name}"
+                self.problems.say(f"{name} stands on the wrong side of `{INNER}` in its door")
 
     def imports(self, item):
         crate = self.crates[item.crate]
@@ -207,7 +219,8 @@ class Register:
             return False
         if (crate, file) != ("c_values", "arguments/Numbers.antt"):
             return True
-        return "Outcome" in self.crates[crate].definition(file, name).type
+        definition = self.crates[crate].definition(file, name)
+        return definition is not None and "Outcome" in definition.type
 
     def promise_column(self, item):
         return " and ".join(self.promise_text(names, item) for names in self.promised(item)) or (
@@ -216,14 +229,13 @@ class Register:
 
     def promise_text(self, names, item):
         """`Promise` (its file) of `others` (theirs); a file stands behind the last of its names."""
-        said, texts = "", []
+        texts = []
         for k, (name, crate, file) in enumerate(names):
             place = file if crate == item.crate else f"{crate}: {file}"
             last_of_file = k + 1 == len(names) or names[k + 1][1:] != (crate, file)
             in_head = crate == "c_values" and name == "HandsOver"
             texts.append(f"`{name}`" + (f" ({place})" if last_of_file and not in_head else ""))
-        said = texts[0]
-        return said + (" of " + ", ".join(texts[1:]) if texts[1:] else "")
+        return " of ".join([texts[0], ", ".join(texts[1:])]) if texts[1:] else texts[0]
 
     def theorem_column(self, item):
         found = self.theorem(item)
@@ -235,37 +247,33 @@ class Register:
         return f"`{theorem.name}` ({place})"
 
     def theorem(self, item):
-        """The closest theorem whose type has the promise, of its crate before those that it names."""
+        """The closest theorem about the promise, of its own crate before those that it names."""
         places = [item.crate] + [place[0] for place in self.imports(item).values() if place]
         best = None
         for statement in item.ensures:
-            name, arguments = application(conjuncts(bare(statement))[0])
+            promised = application(conjuncts(bare(statement))[0])
             for crate in dict.fromkeys(p for p in places if p in self.crates):
                 for theorem in self.crates[crate].theorems:
-                    score = self.score(theorem, name.split(".")[-1], arguments)
+                    score = closeness(theorem, *promised)
                     if score is not None and (best is None or score > best[0]):
                         best = score, crate, theorem
         return best and best[1:]
 
-    def score(self, theorem, name, arguments):
-        for premise in theorem.type.split(" → "):
-            parts = parsed(premise)
-            if name in parts:
-                return fit(application(parts)[1], arguments)
-        return None
-
     # ---- wrong edits
 
     def place_edits(self, crate):
-        """Which item or definition of a crate each of its edits makes wrong."""
+        """Which items and definitions of a crate each of its edits makes wrong."""
         for edit in crate.edits:
-            text = crate.text(edit.file)
-            if edit.old not in text:
-                self.problems.say(f"{edit.crate}/{edit.label}: its old text is not in {edit.file}")
-            at = text.find(edit.old) + len(edit.old) - len(edit.old.lstrip())
-            for place in crate.places(edit.file):
-                if edit.old in text and place.start <= at < place.end:
-                    self.edited.setdefault(id(place), []).append(edit)
+            for file, old in edit.replaced:
+                at = crate.text(file).find(old)
+                if at < 0:
+                    self.problems.say(f"{edit.crate}/{edit.label}: its old text is not in {file}")
+                    continue
+                at += len(old) - len(old.lstrip())
+                for place in crate.places(file):
+                    edits = self.edited.setdefault(id(place), [])
+                    if place.start <= at < place.end and edit not in edits:
+                        edits.append(edit)
 
     def edits_of(self, item):
         """(edit, whether of a definition): of its body all, then the nearest, three at the most.
@@ -326,7 +334,8 @@ def edit_text(edit, of_definition):
 def chapters(register):
     """Those of document 01; a crate that none has comes in one at the end, if it says anything."""
     known = {name for _, names in CHAPTERS for name in names}
-    rest = [n for n, c in register.crates.items() if n not in known and (entry_points(c) or c.edits)]
+    others = [c for n, c in register.crates.items() if n not in known]
+    rest = [c.name for c in others if entry_points(c) or inner_functions(c) or c.edits]
     every = CHAPTERS + ([("Other", rest)] if rest else [])
     return [(title, [n for n in names if n in register.crates]) for title, names in every]
 
@@ -358,7 +367,7 @@ def section(register, crate, marked):
         lines.append("")
     rest = register.not_named(crate)
     if rest:
-        texts = [edit_text(e, e.file.startswith("specs/")) for e in rest]
+        texts = [edit_text(e, e.of_definition) for e in rest]
         lines += [("Also refused: " if entries else "Refused: ") + "; ".join(texts) + ".", ""]
     return lines
 
@@ -398,7 +407,8 @@ def counts(register):
     inner = [i for c in register.crates.values() for i in inner_functions(c)]
     edits = sum(len(c.edits) for c in register.crates.values())
     for_c = len([i for i in every if i.for_c])
-    return f"{len(every)} entry points, {for_c} of them for C; {len(inner)} inner functions; {edits} wrong edits."
+    text = f"{len(every)} entry points, {for_c} of them for C; {len(inner)} inner functions"
+    return f"{text}; {edits} wrong edits."
 
 
 def check_head(register, head):
@@ -427,15 +437,17 @@ def document(register):
 
 
 def stale_lines(old, new):
-    changed = difflib.unified_diff(old.splitlines(), new.splitlines(), "is", "should be", "", "", 0)
-    return [line for line in changed if not line.startswith("@@")]
+    """The lines that go (-) and those that come (+)."""
+    changed = difflib.unified_diff(old.splitlines(), new.splitlines(), n=0, lineterm="")
+    return [line for line in changed if not line.startswith(("@@", "---", "+++"))]
 
 
 def tell_without_edit(register):
     """A count and the names, on standard error: it makes nothing fail."""
     without = []
     for crate in register.crates.values():
-        without += [f"{crate.name}::{i.name}" for i in entry_points(crate) if not register.edits_of(i)]
+        untried = [i for i in entry_points(crate) if not register.edits_of(i)]
+        without += [f"{crate.name}::{i.name}" for i in untried]
     if without:
         print(f"{len(without)} entry points without an edit of their own crate:", file=sys.stderr)
         print("  " + "\n  ".join(without), file=sys.stderr)

@@ -24,7 +24,7 @@ def read(name):
 
 
 def layers(text):
-    """[(layer, [(crate, the crates that it names)])]: a comment right above a crate names a layer."""
+    """[(layer, [(crate, what it names)])]: a comment right above a crate names a layer."""
     found = [("", [])]
     comment = ""
     for line in text.splitlines():

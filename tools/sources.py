@@ -79,13 +79,16 @@ class Definition:
 
 @dataclass
 class Edit:
-    """A wrong edit: its label, what its first comment says, its file and the text it replaces."""
+    """A wrong edit: its label, what its first comment says, and (file, text) that it replaces."""
 
     crate: str
     label: str
     comment: str
-    file: str
-    old: str
+    replaced: list
+
+    @property
+    def of_definition(self):
+        return self.replaced[0][0].startswith("specs/") if self.replaced else False
 
 
 def read(path):
@@ -220,15 +223,16 @@ def specification(path):
 
 
 def edit_of(crate, label, text):
-    comment, file, old = "", "", ""
+    """A `file: ` line holds for the `old: ` lines behind it."""
+    comment, file, replaced = "", "", []
     for line in text.splitlines():
         if line.startswith("# ") and not comment:
             comment = line[2:].strip()
-        elif line.startswith("file: ") and not file:
+        elif line.startswith("file: "):
             file = line[6:]
-        elif line.startswith("old: ") and not old:
-            old = line[5:]
-    return Edit(crate, label, comment, file, old)
+        elif line.startswith("old: "):
+            replaced.append((file, line[5:]))
+    return Edit(crate, label, comment, replaced)
 
 
 class Crate:
@@ -255,16 +259,15 @@ class Crate:
         return {f: read(os.path.join(folder, f)) for f in files_below(folder, ending)}
 
     def text(self, file):
-        """The text of `src/..` or `specs/..`."""
-        part, _, name = file.partition("/")
-        return (self.sources if part == "src" else self.specs).get(name, "")
+        """The text of `src/..`, `specs/..` or `proofs/..`; none where there is no such file."""
+        path = os.path.join(self.folder, file)
+        return read(path) if os.path.isfile(path) else ""
 
     def places(self, file):
         """What stands in `src/..` or `specs/..`: items or definitions."""
         part, _, name = file.partition("/")
-        if part == "src":
-            return [i for i in self.items if file_of(i.module) == name]
-        return [d for d in self.definitions if d.file == name]
+        items = [i for i in self.items if part == "src" and file_of(i.module) == name]
+        return items + [d for d in self.definitions if part == "specs" and d.file == name]
 
     def head(self):
         """What the first lines of its door say."""
@@ -319,13 +322,10 @@ class Crate:
         found = []
         for path in RATTLE_PATH.findall(without_comments(self.text_of(item))):
             module, _, name = path.rpartition("::")
-            if module.startswith("crate::"):
-                place = module[len("crate::") :]
-            elif module:
-                place = module
+            if module:
+                other = self.item(module.removeprefix("crate::"), name)
             else:
-                place = item.module if self.item(item.module, name) else brought.get(name, item.module)
-            other = self.item(place, name)
+                other = self.item(item.module, name) or self.item(brought.get(name), name)
             if other and other is not item and other not in found:
                 found.append(other)
         return found

@@ -93,7 +93,8 @@ fn accrued_on(note: Note, today: Date) -> YearFraction
     }
 }
 
-// The interest accrued on one note.
+// The interest accrued on one note at a day, up to a denomination of 1,000,000 within 1/100,000 of
+// the exact amount; refused by the note's checks, 1, then by the fraction.
 pub fn accrued_interest(note: Note, today: Date) -> YearFraction
     ensures { λ r. ⌜ AccruedPromise note today r ⌝ }
 {

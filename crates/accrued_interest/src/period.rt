@@ -58,11 +58,12 @@ fn amount_due(note: Note, today: Date, p: CouponPeriod) -> YearFraction
     }
 }
 
-// Inner: in a period that has begun, on a day already judged. Nothing in the last period, nor past its end.
+// Inner: what has accrued in a period; asks for a day that exists and a period that has begun.
 pub(crate) fn accrued_in(note: Note, today: Date, p: CouponPeriod) -> YearFraction
     requires { ⌜ (isDate today ≡ true) × Begun today p ⌝ }
     ensures { λ r. ⌜ fractionOutcome r ≡ accruedIn amountsInF64 note today p ⌝ }
 {
+    // Nothing in the last period, nor past its end.
     if !calendar::is_before(p.end, note.maturity) {
         return YearFraction::Fraction(0.0);
     }

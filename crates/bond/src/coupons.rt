@@ -22,7 +22,7 @@ fn in_year_of(year: u32, coupon: CouponDate) -> DateAnswer
     DateAnswer::Date(t)
 }
 
-// Inner: of a note that passed its checks. The end of the first coupon period.
+// Inner: the end of the first coupon period, meant for a note that passed its checks.
 pub fn first_coupon_end(note: Note) -> DateAnswer
     ensures { λ r. ⌜ FirstEndPromise note r ⌝ }
 {
@@ -37,21 +37,21 @@ pub fn first_coupon_end(note: Note) -> DateAnswer
     in_year_of(issue.year + 1, coupon)
 }
 
-// Inner: of numbers that are judged. What a fraction of a year pays on a nominal.
+// Inner: what a fraction of a year pays on a nominal, meant for numbers that are checked.
 pub fn interest(nominal: f64, rate: f64, fraction: f64) -> f64
     ensures { λ r. ⌜ r ≡ interestOn nominal rate fraction ⌝ }
 {
     nominal * rate / 100.0 * fraction
 }
 
-// Inner: of numbers that are judged. What is paid back.
+// Inner: position times denomination, which is paid back, meant for numbers that are checked.
 pub fn nominal(position: f64, note: Note) -> f64
     ensures { λ r. ⌜ r ≡ nominalOf position note ⌝ }
 {
     position * (note.denomination as f64)
 }
 
-// Inner: of numbers that are judged. What a coupon pays.
+// Inner: what a coupon pays for its fraction of a year, meant for numbers that are checked.
 pub fn coupon_amount(position: f64, note: Note, fraction: f64) -> f64
     ensures { λ r. ⌜ r ≡ couponAmount position note fraction ⌝ }
 {

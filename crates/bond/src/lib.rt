@@ -1,4 +1,5 @@
-// The note: its limits, its checks in their order, its first coupon end and what a fraction of a year pays.
+// The note: its limits, its checks in their order, its first coupon end, and what a fraction of a
+// year pays.
 pub mod coupons;
 pub mod limits;
 pub mod note;

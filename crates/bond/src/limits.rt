@@ -11,7 +11,7 @@ pub struct NoteNumber {
 // From these bits on a number has its sign bit set or is not finite.
 pub const NO_RATE: u64 = 0x7ff0_0000_0000_0000;
 
-// 1 to 10 digits, and no digit that does not fit in them.
+// Whether a note's number has 1 to 10 digits, as many as it says.
 pub fn is_note_number(number: NoteNumber) -> bool
     ensures { λ r. ⌜ r ≡ isNoteNumber number ⌝ }
 {
@@ -32,7 +32,7 @@ pub fn is_note_number(number: NoteNumber) -> bool
     }
 }
 
-// Finite, from 0 to 100, the sign bit clear.
+// Whether a rate in percent is finite, from 0 to 100, its sign bit clear.
 pub fn is_coupon_rate(rate: f64) -> bool
     ensures { λ r. ⌜ r ≡ isCouponRate rate ⌝ }
 {

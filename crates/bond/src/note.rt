@@ -30,7 +30,7 @@ pub enum NoteAnswer {
     Refused(u32),
 }
 
-// Finite, from -1e9 to 1e9; a negative zero is one of them.
+// Whether a position is finite, from -1e9 to 1e9; -0.0 is one.
 pub fn is_position(position: f64) -> bool
     ensures { λ r. ⌜ r ≡ isPosition position ⌝ }
 {
@@ -49,7 +49,7 @@ fn is_business(unit: TimePeriodUnit) -> bool
     }
 }
 
-// 13, 14 and 12, the last whether there is a table or not.
+// Refused 13, 14, 12 in this order; 12 whether there is a table or not.
 fn check_period(note: Note, table: bool) -> NoteAnswer
     ensures { λ r. ⌜ noteOutcome r ≡ periodChecks table note ⌝ }
 {
@@ -84,7 +84,8 @@ fn check_terms(note: Note, table: bool) -> NoteAnswer
     }
 }
 
-// The checks of a note in their order, with what a caller found of its position and of its holiday table.
+// The note, with what the caller found of its position and its holiday table; refused 18, 15, 17,
+// 1, 7, 8, 13, 14, 12.
 pub fn check_note_with(note: Note, position: bool, table: bool) -> NoteAnswer
     ensures { λ r. ⌜ ChecksPromise position table note r ⌝ }
 {
@@ -103,7 +104,7 @@ pub fn check_note_with(note: Note, position: bool, table: bool) -> NoteAnswer
     check_terms(note, table)
 }
 
-// The checks of a note alone.
+// The note, without a position and a holiday table; refused 18, 15, 17, 1, 7, 8, 14, 12.
 pub fn check_note(note: Note) -> NoteAnswer
     ensures { λ r. ⌜ NotePromise note r ⌝ }
 {

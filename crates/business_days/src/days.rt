@@ -8,6 +8,7 @@ pub enum BusinessAnswer {
     Refused(u32),
 }
 
+// Whether a serial day is no Saturday, no Sunday and not listed; refused 1, 13.
 pub fn is_business_day(d: Day, table: &[u32]) -> BusinessAnswer
     ensures { λ r. ⌜ BusinessPromise d (now (table .entry)) r ⌝ }
 {
@@ -21,7 +22,7 @@ pub fn is_business_day(d: Day, table: &[u32]) -> BusinessAnswer
     BusinessAnswer::Business(crate::walk::business_at(d.0, table, i))
 }
 
-// k business days on; 0 of them stay on the day, a business day or not.
+// The serial day k business days on, the day itself for 0; refused 1, 13, then 1 for the result.
 pub fn bdays_later(d: Day, k: u32, table: &[u32]) -> DayAnswer
     ensures { λ r. ⌜ LaterPromise d k (now (table .entry)) r ⌝ }
 {
@@ -34,7 +35,7 @@ pub fn bdays_later(d: Day, k: u32, table: &[u32]) -> DayAnswer
     crate::walk::later_from(d.0, k, table)
 }
 
-// k business days back; 0 of them stay on the day, a business day or not.
+// The serial day k business days back, the day itself for 0; refused 1, 13, then 1 for the result.
 pub fn bdays_earlier(d: Day, k: u32, table: &[u32]) -> DayAnswer
     ensures { λ r. ⌜ EarlierPromise d k (now (table .entry)) r ⌝ }
 {
@@ -47,14 +48,14 @@ pub fn bdays_earlier(d: Day, k: u32, table: &[u32]) -> DayAnswer
     crate::walk::earlier_from(d.0, k, table)
 }
 
-// The next business day, strictly later.
+// The next business day, strictly later; refused 1, 13, then 1 for the result.
 pub fn next_bday(d: Day, table: &[u32]) -> DayAnswer
     ensures { λ r. ⌜ NextPromise d (now (table .entry)) r ⌝ }
 {
     bdays_later(d, 1, table)
 }
 
-// The previous business day, strictly earlier.
+// The previous business day, strictly earlier; refused 1, 13, then 1 for the result.
 pub fn prev_bday(d: Day, table: &[u32]) -> DayAnswer
     ensures { λ r. ⌜ PreviousPromise d (now (table .entry)) r ⌝ }
 {

@@ -15,7 +15,7 @@ pub enum Place {
     NoTable,
 }
 
-// Inner: the place of the first holiday that is not before a day, by halving.
+// Inner: the place of the first holiday not before a day, by halving; asks for ascending holidays.
 pub(crate) fn lower_bound(table: &[u32], n: u32) -> usize
     requires { ⌜ ascending (now table) ≡ true ⌝ }
     ensures { λ r. ⌜ IsLowerBound (now (table .entry)) n r ⌝ }
@@ -89,10 +89,11 @@ fn judge_short(table: &[u32], n: u32) -> Place
     Place::At(place)
 }
 
-// Whether a holiday table is taken; where it is not, every question over it is refused with 13. A short one is where a day, whichever, has a place in it.
+// Whether a holiday table is at most 4,096 days of the calendar, strictly ascending.
 pub fn is_table(table: &[u32]) -> bool
     ensures { λ r. ⌜ TablePromise (now (table .entry)) r ⌝ }
 {
+    // A short table is good where a day has a place in it; day 0 stands for any.
     if table.len() < SHORT {
         return match judge_short(table, 0) {
             Place::At(_) => true,
@@ -105,7 +106,7 @@ pub fn is_table(table: &[u32]) -> bool
     is_ascending(table)
 }
 
-// Inner: the place of the first holiday that is not before a day, of a table that is not judged yet.
+// Inner: the place of the first holiday not before a day, or that the table is not taken.
 pub fn place_in(table: &[u32], n: u32) -> Place
     ensures { λ r. ⌜ Placed (now (table .entry)) n r ⌝ }
 {

@@ -16,10 +16,10 @@ const FIRST_DAY: u32 = 1;
 
 const WHOLE: u64 = 4294967296;
 
-// Of the whole, rounded up.
+// A seventh of WHOLE, rounded up.
 const SEVENTH: u64 = 613566757;
 
-// From there on it is Saturday, the sixth day of a week, or Sunday.
+// Five sevenths of WHOLE: from there on it is Saturday, the sixth day of a week, or Sunday.
 const FIVE_SEVENTHS: u64 = 3067833785;
 
 // Times a seventh, whole weeks are whole numbers and fall away, but for less than a seventh: no division is left.
@@ -45,11 +45,12 @@ fn holiday_before(table: &[u32], i: usize) -> u32
     if 0 < i { table[i - 1] } else { 0 }
 }
 
-// Inner: the place of the first holiday that is not before a day, from a place near it, where that is not past it: a rollout's days come in order, so that it searches once and then passes its holidays.
+// Inner: the first place not before a day, from one near it; asks for ascending holidays.
 pub fn lower_bound_from(table: &[u32], n: u32, hint: usize) -> usize
     requires { ⌜ ascending (now table) ≡ true ⌝ }
     ensures { λ r. ⌜ IsLowerBound (now (table .entry)) n r ⌝ }
 {
+    // A rollout's days come in order, so that it searches once and then passes its holidays.
     if table.len() < hint {
         return crate::table::lower_bound(table, n);
     }
@@ -120,31 +121,34 @@ fn walk_back(part: &[u32], n: u32, k: u32) -> DayAnswer
     DayAnswer::Day(Day(at))
 }
 
-// Inner: of a day and holidays already judged, and with no limit to their number, so that a caller who asks often judges once; of the day's place among them too.
+// Inner: whether a day is a business day; asks for a day and its place among ascending holidays.
 pub fn business_at(n: u32, table: &[u32], i: usize) -> bool
     requires { ⌜ (JudgedDay n (now table)) × (IsLowerBound (now table) n i) ⌝ }
     ensures { λ r. ⌜ r ≡ isBusiness (now (table .entry)) n ⌝ }
 {
+    // The holidays may be any number, so that a caller who asks often judges them once.
     if is_weekend(n) {
         return false;
     }
     holiday_at(table, i) != n
 }
 
-// Inner: k business days on, of a day and holidays already judged. One search, then the walk over the part of the table from there.
+// Inner: the day k business days on; asks for a day that exists and ascending holidays.
 pub fn later_from(n: u32, k: u32, table: &[u32]) -> DayAnswer
     requires { ⌜ JudgedDay n (now table) ⌝ }
     ensures { λ r. ⌜ dayOutcome r ≡ laterFrom (now (table .entry)) k n ⌝ }
 {
+    // One search, then the walk over the part of the table from there.
     let i = crate::table::lower_bound(table, n + 1);
     walk_on(&table[i..], n, k)
 }
 
-// Inner: k business days back, of a day and holidays already judged. One search, then the walk over the part of the table up to there.
+// Inner: the day k business days back; asks for a day that exists and ascending holidays.
 pub fn earlier_from(n: u32, k: u32, table: &[u32]) -> DayAnswer
     requires { ⌜ JudgedDay n (now table) ⌝ }
     ensures { λ r. ⌜ dayOutcome r ≡ earlierFrom (now (table .entry)) k n ⌝ }
 {
+    // One search, then the walk over the part of the table up to there.
     let i = crate::table::lower_bound(table, n);
     walk_back(&table[..i], n, k)
 }
@@ -157,7 +161,7 @@ fn place_after(table: &[u32], n: u32, i: usize) -> usize
     if holiday_at(table, i) == n { i + 1 } else { i }
 }
 
-// Inner: the next business day, of a day, its place among the holidays, and holidays already judged.
+// Inner: the next business day; asks for a day and its place among ascending holidays.
 pub fn next_at(n: u32, table: &[u32], i: usize) -> DayAnswer
     requires { ⌜ (JudgedDay n (now table)) × (IsLowerBound (now table) n i) ⌝ }
     ensures { λ r. ⌜ dayOutcome r ≡ nextFrom (now (table .entry)) n ⌝ }
@@ -166,7 +170,7 @@ pub fn next_at(n: u32, table: &[u32], i: usize) -> DayAnswer
     walk_on(&table[after..], n, 1)
 }
 
-// Inner: the previous business day, of the same.
+// Inner: the previous business day; asks for a day and its place among ascending holidays.
 pub fn prev_at(n: u32, table: &[u32], i: usize) -> DayAnswer
     requires { ⌜ (JudgedDay n (now table)) × (IsLowerBound (now table) n i) ⌝ }
     ensures { λ r. ⌜ dayOutcome r ≡ prevFrom (now (table .entry)) n ⌝ }

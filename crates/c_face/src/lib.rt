@@ -1,5 +1,5 @@
-// The C face: the entry points over numbers, bytes and lent slices. What is returned is the refusal's number, or 0 for an answer,
-// and only then is what is lent written.
+// The C face: the entry points over numbers, bytes and lent slices. Each returns the refusal's
+// number, or 0 for an answer, and only then writes what is lent.
 ghost use mathlib.Core.Path.{_≡_};
 ghost use mathlib.Core.Bool.{true};
 ghost use lib.ListN.{length};
@@ -60,7 +60,7 @@ fn flat_rate(rate: f64, convention: DayCountConv, c1: u8, c2: u8, c3: u8) -> Fla
     }
 }
 
-// The serial day of a date.
+// The serial day of a date; refused 1.
 #[no_mangle]
 pub extern "C" fn notes_day_of(year: u32, month: u32, day: u32, serial: &mut u32) -> u32
     ensures { λ r. ⌜ HandsOver (dayOf (date year month day)) r (record { 0 = now (serial .entry) }) (record { 0 = now (serial .exit) }) ⌝ }
@@ -69,7 +69,7 @@ pub extern "C" fn notes_day_of(year: u32, month: u32, day: u32, serial: &mut u32
     c_values::hand_day(calendar::day_of(t), serial)
 }
 
-// The date of a serial day.
+// The date of a serial day; refused 1.
 #[no_mangle]
 pub extern "C" fn notes_date_of(serial: u32, year: &mut u32, month: &mut u32, day: &mut u32) -> u32
     ensures { λ r. ⌜ HandsOver (dateOf (serialDay serial)) r (date (now (year .entry)) (now (month .entry)) (now (day .entry))) (date (now (year .exit)) (now (month .exit)) (now (day .exit))) ⌝ }
@@ -77,7 +77,7 @@ pub extern "C" fn notes_date_of(serial: u32, year: &mut u32, month: &mut u32, da
     c_values::hand_date(calendar::date_of(Day(serial)), year, month, day)
 }
 
-// The weekday of a serial day: Monday is 1 and Sunday 7.
+// The weekday of a serial day, Monday 1 to Sunday 7; refused 1.
 #[no_mangle]
 pub extern "C" fn notes_weekday(serial: u32, weekday: &mut u32) -> u32
     ensures { λ r. ⌜ HandsOver (weekdayOf (serialDay serial)) r (now (weekday .entry)) (now (weekday .exit)) ⌝ }
@@ -85,7 +85,7 @@ pub extern "C" fn notes_weekday(serial: u32, weekday: &mut u32) -> u32
     c_values::hand_weekday(calendar::weekday(Day(serial)), weekday)
 }
 
-// The day count from one serial day to another.
+// The day count from one serial day to another that is not before it; refused 1, 19.
 #[no_mangle]
 pub extern "C" fn notes_days_between(from: u32, to: u32, days: &mut u32) -> u32
     ensures { λ r. ⌜ HandsOver (daysBetween (serialDay from) (serialDay to)) r (record { 0 = now (days .entry) }) (record { 0 = now (days .exit) }) ⌝ }
@@ -93,7 +93,7 @@ pub extern "C" fn notes_days_between(from: u32, to: u32, days: &mut u32) -> u32
     c_values::hand_days(calendar::days_between(Day(from), Day(to)), days)
 }
 
-// A period read from its text.
+// The number and the unit's code of a period's text; refused 2, 3, 4.
 #[no_mangle]
 pub extern "C" fn notes_read_period(text: &[u8], num: &mut i32, unit: &mut u32) -> u32
     ensures { λ r. ⌜ HandsOver (passedAs coded (texts.periodRead (now (text .entry)))) r (now (num .entry), now (unit .entry)) (now (num .exit), now (unit .exit)) ⌝ }
@@ -101,7 +101,7 @@ pub extern "C" fn notes_read_period(text: &[u8], num: &mut i32, unit: &mut u32) 
     c_values::hand_period(term_text::read_period(text), num, unit)
 }
 
-// A period's text, in front of the lent bytes.
+// A period's number and its unit's letter, in front of the lent bytes; refused 18, 16.
 #[no_mangle]
 pub extern "C" fn notes_write_period(num: i32, unit: u32, out: &mut [u8], length: &mut usize) -> u32
     ensures { λ r. ⌜ HandsOver (andThen (periodOfNumbers num unit) (λ p. textIn (now (out .entry)) (periodText p))) r (now (length .entry), now (out .entry)) (now (length .exit), now (out .exit)) ⌝ }
@@ -114,7 +114,7 @@ pub extern "C" fn notes_write_period(num: i32, unit: u32, out: &mut [u8], length
     }
 }
 
-// How many of a period make a year.
+// How many of a period make a year, 12, 4, 2 or 1, its sign ignored; refused 18, 5.
 #[no_mangle]
 pub extern "C" fn notes_frequency(num: i32, unit: u32, per_year: &mut u32) -> u32
     ensures { λ r. ⌜ HandsOver (andThen (periodOfNumbers num unit) frequencyOf) r (now («per_year» .entry)) (now («per_year» .exit)) ⌝ }
@@ -125,7 +125,7 @@ pub extern "C" fn notes_frequency(num: i32, unit: u32, per_year: &mut u32) -> u3
     }
 }
 
-// The date a period on, without a holiday table.
+// The date a period on, without a holiday table; refused 18, 1, 12, then 1 for the result.
 #[no_mangle]
 pub extern "C" fn notes_add_to(
     num: i32,
@@ -148,7 +148,7 @@ pub extern "C" fn notes_add_to(
     }
 }
 
-// The date a period back, without a holiday table.
+// The date a period back, without a holiday table; refused 18, 1, 4, 12, then 1 for the result.
 #[no_mangle]
 pub extern "C" fn notes_sub_from(
     num: i32,
@@ -171,7 +171,7 @@ pub extern "C" fn notes_sub_from(
     }
 }
 
-// The date a period on, over a holiday table.
+// The date a period on, over a holiday table; refused 18, 1, 13, then 1 for the result.
 #[no_mangle]
 pub extern "C" fn notes_add_to_with(
     num: i32,
@@ -196,7 +196,7 @@ pub extern "C" fn notes_add_to_with(
     }
 }
 
-// The date a period back, over a holiday table.
+// The date a period back, over a holiday table; refused 18, 1, 4, 13, then 1 for the result.
 #[no_mangle]
 pub extern "C" fn notes_sub_from_with(
     num: i32,
@@ -221,7 +221,7 @@ pub extern "C" fn notes_sub_from_with(
     }
 }
 
-// The check of a coupon date.
+// The check of a day and a month as a coupon date, 0 where they are one; refused 7, 8.
 #[no_mangle]
 pub extern "C" fn notes_new_coupon_date(day: u32, month: u32) -> u32
     ensures { λ r. ⌜ r ≡ number (couponDate day month) ⌝ }
@@ -229,7 +229,7 @@ pub extern "C" fn notes_new_coupon_date(day: u32, month: u32) -> u32
     c_values::hand_coupon_check(coupon_date::new_coupon_date(day, month))
 }
 
-// A coupon date read from its text.
+// The day and the month of a text dd.mm; refused 6, 7, 8.
 #[no_mangle]
 pub extern "C" fn notes_read_coupon_date(text: &[u8], day: &mut u32, month: &mut u32) -> u32
     ensures { λ r. ⌜ HandsOver (couponText (now (text .entry))) r (record { day = now (day .entry); month = now (month .entry) }) (record { day = now (day .exit); month = now (month .exit) }) ⌝ }
@@ -237,7 +237,7 @@ pub extern "C" fn notes_read_coupon_date(text: &[u8], day: &mut u32, month: &mut
     c_values::hand_coupon(term_text::read_coupon_date(text), day, month)
 }
 
-// A coupon date's text, in front of the lent bytes.
+// A coupon date as dd.mm, in front of the lent bytes; refused 16.
 #[no_mangle]
 pub extern "C" fn notes_write_coupon_date(
     day: u32,
@@ -251,7 +251,7 @@ pub extern "C" fn notes_write_coupon_date(
     c_values::hand_length(term_text::write_coupon_date(c, out), length)
 }
 
-// Whether a serial day is a business day: 1 is yes and 0 is no.
+// Whether a serial day is a business day, 1 for yes and 0 for no; refused 1, 13.
 #[no_mangle]
 pub extern "C" fn notes_is_business_day(serial: u32, holidays: &[u32], yes: &mut u32) -> u32
     ensures { λ r. ⌜ HandsOver (passedAs yesNo (isBusinessDay (serialDay serial) (now (holidays .entry)))) r (now (yes .entry)) (now (yes .exit)) ⌝ }
@@ -259,7 +259,7 @@ pub extern "C" fn notes_is_business_day(serial: u32, holidays: &[u32], yes: &mut
     c_values::hand_business(business_days::is_business_day(Day(serial), holidays), yes)
 }
 
-// The serial day k business days on.
+// The serial day k business days on, the day itself for 0; refused 1, 13, then 1 for the result.
 #[no_mangle]
 pub extern "C" fn notes_bdays_later(serial: u32, k: u32, holidays: &[u32], found: &mut u32) -> u32
     ensures { λ r. ⌜ HandsOver (bdaysLater (serialDay serial) k (now (holidays .entry))) r (record { 0 = now (found .entry) }) (record { 0 = now (found .exit) }) ⌝ }
@@ -267,7 +267,7 @@ pub extern "C" fn notes_bdays_later(serial: u32, k: u32, holidays: &[u32], found
     c_values::hand_day(business_days::bdays_later(Day(serial), k, holidays), found)
 }
 
-// The serial day k business days back.
+// The serial day k business days back, the day itself for 0; refused 1, 13, then 1 for the result.
 #[no_mangle]
 pub extern "C" fn notes_bdays_earlier(serial: u32, k: u32, holidays: &[u32], found: &mut u32) -> u32
     ensures { λ r. ⌜ HandsOver (bdaysEarlier (serialDay serial) k (now (holidays .entry))) r (record { 0 = now (found .entry) }) (record { 0 = now (found .exit) }) ⌝ }
@@ -278,7 +278,8 @@ pub extern "C" fn notes_bdays_earlier(serial: u32, k: u32, holidays: &[u32], fou
     )
 }
 
-// The date that a date is adjusted to.
+// The date that a date is adjusted to by one of four rules; refused 18, 1, 13, then 1 for the
+// result.
 #[no_mangle]
 pub extern "C" fn notes_adjust_date(
     adjustment: u32,
@@ -302,7 +303,7 @@ pub extern "C" fn notes_adjust_date(
     }
 }
 
-// The year fraction from start to end, with no roll date and no period.
+// The year fraction from start to end, with no roll date and no period; refused 18, 1, 19, 10, 9.
 #[no_mangle]
 pub extern "C" fn notes_year_fraction(
     convention: u32,
@@ -335,7 +336,8 @@ pub extern "C" fn notes_year_fraction(
     }
 }
 
-// The year fraction from start to end, with a roll date and a period, which ICMA asks for.
+// The year fraction from start to end, with a roll date and a period; refused 18, 1, 19, 5, 14,
+// then 1 or 9.
 #[no_mangle]
 pub extern "C" fn notes_year_fraction_rolled(
     convention: u32,
@@ -386,7 +388,7 @@ pub extern "C" fn notes_year_fraction_rolled(
     }
 }
 
-// An amount rounded to 0 to 4 digits.
+// An amount rounded to 0 to 4 digits, halves away from zero, a zero with its sign; refused 15.
 #[no_mangle]
 pub extern "C" fn notes_round2digits(amount: f64, digits: i32, rounded: &mut f64) -> u32
     ensures { λ r. ⌜ HandsOver (round2digitsOf amount digits) r (now (rounded .entry)) (now (rounded .exit)) ⌝ }
@@ -394,7 +396,7 @@ pub extern "C" fn notes_round2digits(amount: f64, digits: i32, rounded: &mut f64
     c_values::hand_amount(cash_flow::round2digits(amount, digits), rounded)
 }
 
-// An amount's text with four decimals, in front of the lent bytes.
+// An amount with four decimals, in at least 16 columns in front of the lent bytes; refused 15, 16.
 #[no_mangle]
 pub extern "C" fn notes_write_decimal(amount: f64, out: &mut [u8], length: &mut usize) -> u32
     ensures { λ r. ⌜ HandsOver (andThen (decimalShown amount) (textIn (now (out .entry)))) r (now (length .entry), now (out .entry)) (now (length .exit), now (out .exit)) ⌝ }
@@ -402,7 +404,7 @@ pub extern "C" fn notes_write_decimal(amount: f64, out: &mut [u8], length: &mut 
     c_values::hand_length(decimal::write_decimal(amount, out), length)
 }
 
-// A flow's text, in front of the lent bytes.
+// A flow's date, amount and currency, in front of the lent bytes; refused 15, 17, 1, 16.
 #[no_mangle]
 pub extern "C" fn notes_write_cash_flow(
     year: u32,
@@ -431,7 +433,7 @@ pub extern "C" fn notes_write_cash_flow(
     c_values::hand_length(flow_text::write_cash_flow(flow, out), length)
 }
 
-// Whether two flows are equal within a tolerance: 1 is yes and 0 is no. Nothing is refused.
+// Whether two flows are equal within a tolerance, 1 for yes and 0 for no, never refused.
 #[no_mangle]
 pub extern "C" fn notes_fuzzy_cash_flows_cmp_eq(
     a_year: u32,
@@ -486,7 +488,8 @@ pub extern "C" fn notes_fuzzy_cash_flows_cmp_eq(
     c_values::hand_yes_no(cash_flow::fuzzy_cash_flows_cmp_eq(a, b, tolerance), equal)
 }
 
-// The checks of a note alone.
+// The checks of a note without position and table, 0 where it passes; refused 18 for a code, then
+// 18, 15, 17, 1, 7, 8, 14, 12.
 #[no_mangle]
 pub extern "C" fn notes_check_note(
     number_count: u32,
@@ -537,7 +540,8 @@ pub extern "C" fn notes_check_note(
     }
 }
 
-// The serial days and the amounts of a note's flows, in front of two lent lists.
+// A note's flows as serial days and amounts in two lent lists, and their count; refused 18 for a
+// code, by the note's checks, then flow by flow, last 16.
 #[no_mangle]
 pub extern "C" fn notes_rollout_flows(
     number_count: u32,
@@ -596,7 +600,8 @@ pub extern "C" fn notes_rollout_flows(
     }
 }
 
-// The interest accrued on one note.
+// The interest accrued on one note at a day; refused 18 for a code, by the note's checks, 1, then
+// by the fraction.
 #[no_mangle]
 pub extern "C" fn notes_accrued_interest(
     number_count: u32,
@@ -654,7 +659,8 @@ pub extern "C" fn notes_accrued_interest(
     }
 }
 
-// A note and its table as a packed record, in front of the lent bytes.
+// A note and its holiday table as a packed record, in front of the lent bytes; refused 18 for a
+// code or the period, by the note's checks, last 16.
 #[no_mangle]
 pub extern "C" fn notes_write_note(
     number_count: u32,
@@ -710,7 +716,7 @@ pub extern "C" fn notes_write_note(
     }
 }
 
-// The listing of a packed record, in front of the lent bytes: its flows, or `refused N`.
+// The listing of a packed record in lent bytes, its flows or `refused N`; refused 16.
 #[no_mangle]
 pub extern "C" fn notes_list_note(record: &[u8], out: &mut [u8], length: &mut usize) -> u32
     ensures { λ r. ⌜ HandsOver (textIn (now (out .entry)) (listing (now («record» .entry)))) r (now (length .entry), now (out .entry)) (now (length .exit), now (out .exit)) ⌝ }
@@ -718,7 +724,8 @@ pub extern "C" fn notes_list_note(record: &[u8], out: &mut [u8], length: &mut us
     c_values::hand_length(note_listing::list_note(record, out), length)
 }
 
-// The flows strictly after a serial day, in front of three lent lists.
+// The flows of three lists strictly later than a serial day, in order, in three lent lists, and
+// their count; refused 1, 16.
 #[no_mangle]
 pub extern "C" fn notes_flows_after(
     serial: u32,
@@ -745,7 +752,7 @@ pub extern "C" fn notes_flows_after(
     c_values::hand_flows(answer, count)
 }
 
-// The factor that discounts a payment to today.
+// The factor that discounts a payment to today; refused 18, 15, then by the fraction.
 #[no_mangle]
 pub extern "C" fn notes_discount_factor(
     rate: f64,
@@ -782,7 +789,8 @@ pub extern "C" fn notes_discount_factor(
     }
 }
 
-// What a stream is worth today, given as serial days, currencies as numbers and amounts.
+// What a stream of three lists is worth today, summed from 0 in order; refused 18, 15 for the rate,
+// then flow by flow 15, 17 and by the fraction.
 #[no_mangle]
 pub extern "C" fn notes_discount_flows(
     rate: f64,
@@ -800,6 +808,7 @@ pub extern "C" fn notes_discount_flows(
 ) -> u32
     ensures { λ r. ⌜ HandsOver (andThen (conventionOf convention) (λ c. discountedStream (flatRate rate c (currency c1 c2 c3)) (date «today_year» «today_month» «today_day») (flowsOf (now (days .entry)) (now (currencies .entry)) (now (amounts .entry))))) r (now (amount .entry)) (now (amount .exit)) ⌝ }
 {
+    // The lists are serial days, currencies as numbers, and amounts.
     match packed_codes::convention_of_code(convention) {
         ConventionAnswer::Convention(c) => {
             let x = flat_rate(rate, c, c1, c2, c3);

@@ -39,7 +39,7 @@ fn yes_no(b: bool) -> u32
     if b { 1 } else { 0 }
 }
 
-// Inner: a yes or no that is never refused.
+// Inner: hands C 1 for yes and 0 for no, never refused.
 pub fn hand_yes_no(b: bool, yes: &mut u32) -> u32
     ensures { λ r. ⌜ HandsOver (given (yesNo b)) r (now (yes .entry)) (now (yes .exit)) ⌝ }
 {
@@ -47,7 +47,7 @@ pub fn hand_yes_no(b: bool, yes: &mut u32) -> u32
     ANSWERED
 }
 
-// Inner: how many bytes were written into lent bytes.
+// Inner: hands C how many bytes were written, or the refusal's number.
 pub fn hand_length(a: LengthAnswer, length: &mut usize) -> u32
     ensures { λ r. ⌜ HandsOver (lengthOutcome a) r (now (length .entry)) (now (length .exit)) ⌝ }
 {
@@ -60,7 +60,7 @@ pub fn hand_length(a: LengthAnswer, length: &mut usize) -> u32
     }
 }
 
-// Inner: for `c_face`.
+// Inner: hands C a serial day, or the refusal's number.
 pub fn hand_day(a: DayAnswer, serial: &mut u32) -> u32
     ensures { λ r. ⌜ HandsOver (dayOutcome a) r (record { 0 = now (serial .entry) }) (record { 0 = now (serial .exit) }) ⌝ }
 {
@@ -73,7 +73,7 @@ pub fn hand_day(a: DayAnswer, serial: &mut u32) -> u32
     }
 }
 
-// Inner: for `c_face`.
+// Inner: hands C a day count, or the refusal's number.
 pub fn hand_days(a: DaysAnswer, days: &mut u32) -> u32
     ensures { λ r. ⌜ HandsOver (daysOutcome a) r (record { 0 = now (days .entry) }) (record { 0 = now (days .exit) }) ⌝ }
 {
@@ -86,7 +86,7 @@ pub fn hand_days(a: DaysAnswer, days: &mut u32) -> u32
     }
 }
 
-// Inner: for `c_face`.
+// Inner: hands C year, month and day, or the refusal's number.
 pub fn hand_date(a: DateAnswer, year: &mut u32, month: &mut u32, day: &mut u32) -> u32
     ensures { λ r. ⌜ HandsOver (dateOutcome a) r (record { year = now (year .entry); month = now (month .entry); day = now (day .entry) }) (record { year = now (year .exit); month = now (month .exit); day = now (day .exit) }) ⌝ }
 {
@@ -101,7 +101,7 @@ pub fn hand_date(a: DateAnswer, year: &mut u32, month: &mut u32, day: &mut u32) 
     }
 }
 
-// Inner: for `c_face`.
+// Inner: hands C a weekday, or the refusal's number.
 pub fn hand_weekday(a: WeekdayAnswer, weekday: &mut u32) -> u32
     ensures { λ r. ⌜ HandsOver (weekdayOutcome a) r (now (weekday .entry)) (now (weekday .exit)) ⌝ }
 {
@@ -114,7 +114,7 @@ pub fn hand_weekday(a: WeekdayAnswer, weekday: &mut u32) -> u32
     }
 }
 
-// Inner: for `c_face`.
+// Inner: hands C day and month of a coupon date, or the refusal's number.
 pub fn hand_coupon(a: CouponAnswer, day: &mut u32, month: &mut u32) -> u32
     ensures { λ r. ⌜ HandsOver (couponOutcome a) r (record { day = now (day .entry); month = now (month .entry) }) (record { day = now (day .exit); month = now (month .exit) }) ⌝ }
 {
@@ -128,7 +128,7 @@ pub fn hand_coupon(a: CouponAnswer, day: &mut u32, month: &mut u32) -> u32
     }
 }
 
-// Inner: for `c_face`.
+// Inner: hands C 0 for a coupon date, or the refusal's number.
 pub fn hand_coupon_check(a: CouponAnswer) -> u32
     ensures { λ r. ⌜ r ≡ number (couponOutcome a) ⌝ }
 {
@@ -138,7 +138,7 @@ pub fn hand_coupon_check(a: CouponAnswer) -> u32
     }
 }
 
-// Inner: for `c_face`.
+// Inner: hands C 1 for a business day and 0 for another, or the refusal's number.
 pub fn hand_business(a: BusinessAnswer, yes: &mut u32) -> u32
     ensures { λ r. ⌜ HandsOver (passedAs yesNo (businessOutcome a)) r (now (yes .entry)) (now (yes .exit)) ⌝ }
 {
@@ -148,7 +148,7 @@ pub fn hand_business(a: BusinessAnswer, yes: &mut u32) -> u32
     }
 }
 
-// Inner: for `c_face`.
+// Inner: hands C how many make a year, or the refusal's number.
 pub fn hand_frequency(a: FrequencyAnswer, per_year: &mut u32) -> u32
     ensures { λ r. ⌜ HandsOver (frequencyOutcome a) r (now («per_year» .entry)) (now («per_year» .exit)) ⌝ }
 {
@@ -161,7 +161,7 @@ pub fn hand_frequency(a: FrequencyAnswer, per_year: &mut u32) -> u32
     }
 }
 
-// Inner: the unit goes over as its packed code.
+// Inner: hands C a period's number and its unit's packed code, or the refusal's number.
 pub fn hand_period(a: PeriodAnswer, num: &mut i32, unit: &mut u32) -> u32
     ensures { λ r. ⌜ HandsOver (passedAs coded (periodOutcome a)) r (now (num .entry), now (unit .entry)) (now (num .exit), now (unit .exit)) ⌝ }
 {
@@ -177,7 +177,7 @@ pub fn hand_period(a: PeriodAnswer, num: &mut i32, unit: &mut u32) -> u32
     }
 }
 
-// Inner: for `c_face`.
+// Inner: hands C a year fraction or an interest, or the refusal's number.
 pub fn hand_fraction(a: YearFraction, fraction: &mut f64) -> u32
     ensures { λ r. ⌜ HandsOver (fractionOutcome a) r (now (fraction .entry)) (now (fraction .exit)) ⌝ }
 {
@@ -190,7 +190,7 @@ pub fn hand_fraction(a: YearFraction, fraction: &mut f64) -> u32
     }
 }
 
-// Inner: for `c_face`.
+// Inner: hands C an amount, or the refusal's number.
 pub fn hand_amount(a: AmountAnswer, amount: &mut f64) -> u32
     ensures { λ r. ⌜ HandsOver (amountOutcome a) r (now (amount .entry)) (now (amount .exit)) ⌝ }
 {
@@ -203,7 +203,7 @@ pub fn hand_amount(a: AmountAnswer, amount: &mut f64) -> u32
     }
 }
 
-// Inner: for `c_face`.
+// Inner: hands C a discount factor, or the refusal's number.
 pub fn hand_factor(a: FactorAnswer, factor: &mut f64) -> u32
     ensures { λ r. ⌜ HandsOver (factorOutcome a) r (now (factor .entry)) (now (factor .exit)) ⌝ }
 {
@@ -216,7 +216,7 @@ pub fn hand_factor(a: FactorAnswer, factor: &mut f64) -> u32
     }
 }
 
-// Inner: how many flows were written into lent lists.
+// Inner: hands C how many flows were written, or the refusal's number.
 pub fn hand_flows(a: FlowsAnswer, count: &mut usize) -> u32
     ensures { λ r. ⌜ HandsOver (flowsOutcome a) r (now (count .entry)) (now (count .exit)) ⌝ }
 {
@@ -229,7 +229,7 @@ pub fn hand_flows(a: FlowsAnswer, count: &mut usize) -> u32
     }
 }
 
-// Inner: of a check nothing is handed over but its number.
+// Inner: hands C 0 for a note, or the refusal's number.
 pub fn hand_note_check(a: NoteAnswer) -> u32
     ensures { λ r. ⌜ r ≡ number (noteOutcome a) ⌝ }
 {

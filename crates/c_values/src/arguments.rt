@@ -22,7 +22,7 @@ pub enum AdjustmentAnswer {
     Refused(u32),
 }
 
-// Inner: a period by its number and the code of its unit, for `c_face`.
+// Inner: the period of C's number and unit code; refused 18.
 pub fn period_of(num: i32, unit: u32) -> PeriodAnswer
     ensures { λ r. ⌜ periodOutcome r ≡ periodOfNumbers num unit ⌝ }
 {
@@ -32,17 +32,18 @@ pub fn period_of(num: i32, unit: u32) -> PeriodAnswer
     }
 }
 
-// Inner: an adjustment by its code. A record has two bits for it, so that only here one can be too large.
+// Inner: the adjustment of C's code; refused 18.
 pub fn adjustment_of(code: u32) -> AdjustmentAnswer
     ensures { λ r. ⌜ adjustmentOutcome r ≡ adjustmentOf code ⌝ }
 {
+    // A record has two bits for it, so that only here one can be too large.
     if LAST_ADJUSTMENT < code {
         return AdjustmentAnswer::Refused(outcome::MALFORMED_RECORD);
     }
     AdjustmentAnswer::Adjustment(packed_codes::adjustment_of_code(code))
 }
 
-// Inner: a note by its numbers. The codes are looked up in the order of the arguments.
+// Inner: the note of C's numbers, its codes looked up in the order of the arguments; refused 18.
 pub fn note_of(
     number_count: u32,
     number_digits: u64,

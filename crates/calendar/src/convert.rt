@@ -22,11 +22,12 @@ fn from_march(year: u32, month: u32) -> u32
     1461 * year / 4 - centuries + centuries / 4 + (979 * month - 2919) / 32
 }
 
-// Inner: the serial day of a date that is already judged. From March to the new year there are 306 days.
+// Inner: the serial day of a date; asks for a date that exists.
 pub fn day_of_date(t: Date) -> u32
     requires { ⌜ isDate t ≡ true ⌝ }
     ensures { λ r. ⌜ r ≡ dayNumber t ⌝ }
 {
+    // From March to the new year there are 306 days.
     let year = if t.month < 3 { t.year - 1 } else { t.year };
     let month = if t.month < 3 { t.month + 12 } else { t.month };
     from_march(year, month) + t.day - 306
@@ -47,7 +48,7 @@ fn march_day(n: u32) -> MarchDay
     }
 }
 
-// Inner: the date of a serial day that is already judged.
+// Inner: the date of a serial day; asks for a day from 1 to 3,652,059.
 pub fn date_of_day(n: u32) -> Date
     requires { ⌜ (1 ≤ n) × (n ≤ 3652059) ⌝ }
     ensures { λ r. ⌜ r ≡ theDate n ⌝ }

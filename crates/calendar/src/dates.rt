@@ -18,6 +18,7 @@ pub const LAST_YEAR: u32 = 9999;
 
 pub const LAST_DAY: u32 = 3652059;
 
+// Whether a date exists, from 0001-01-01 to 9999-12-31.
 pub fn is_date(t: Date) -> bool
     ensures { λ r. ⌜ r ≡ isDate t ⌝ }
 {
@@ -43,6 +44,7 @@ pub fn is_date(t: Date) -> bool
     t.day <= crate::gregorian::length_of_month(t.year, t.month)
 }
 
+// Whether a serial day is in the calendar, from 1 to 3,652,059.
 pub fn is_day(d: Day) -> bool
     ensures { λ r. ⌜ r ≡ isDay d ⌝ }
 {
@@ -52,10 +54,11 @@ pub fn is_day(d: Day) -> bool
     d.0 <= LAST_DAY
 }
 
-// Year by year, then month by month, then day by day: no serial day is taken.
+// Whether a date lies before another, by year, then month, then day.
 pub fn is_before(a: Date, b: Date) -> bool
     ensures { λ r. ⌜ r ≡ isBefore a b ⌝ }
 {
+    // The parts are compared, so that no serial day is computed.
     if a.year != b.year {
         return a.year < b.year;
     }
@@ -65,6 +68,7 @@ pub fn is_before(a: Date, b: Date) -> bool
     a.day < b.day
 }
 
+// Whether two dates have the same year, month and day.
 pub fn is_same(a: Date, b: Date) -> bool
     ensures { λ r. ⌜ r ≡ isSame a b ⌝ }
 {

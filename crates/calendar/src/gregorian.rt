@@ -409,6 +409,7 @@ const FIRST_OF_YEAR: [u32; 400] = [
     145732,
 ];
 
+// Whether a year is a leap year of the Gregorian calendar.
 pub fn is_leap(year: u32) -> bool
     ensures { λ r. ⌜ r ≡ leap year ⌝ }
 {
@@ -420,7 +421,7 @@ pub fn is_leap(year: u32) -> bool
     }
 }
 
-// The days of a month: 0 where there is no such month.
+// How many days a month of a year has; 0 where there is no such month.
 pub fn length_of_month(year: u32, month: u32) -> u32
     ensures { λ r. ⌜ r ≡ monthLength year month ⌝ }
 {
@@ -433,7 +434,7 @@ pub fn length_of_month(year: u32, month: u32) -> u32
     }
 }
 
-// The days of a year: 0 for year 0, which there is not.
+// How many days a year has; 0 for year 0, which does not exist.
 pub fn length_of_year(year: u32) -> u32
     ensures { λ r. ⌜ r ≡ yearLength year ⌝ }
 {
@@ -455,11 +456,12 @@ fn common_before_month(month: u32) -> u32
     }
 }
 
-// Inner: the days of a year before a month of it; month 13 stands for the next year's first.
+// Inner: the days of a year before a month of it; asks for a month from 1 to 13.
 pub fn days_before_month(year: u32, month: u32) -> u32
     requires { ⌜ (1 ≤ month) × (month ≤ 13) ⌝ }
     ensures { λ r. ⌜ r ≡ beforeMonth year month ⌝ }
 {
+    // Month 13 is the next year's first.
     let common = common_before_month(month);
     if month < 3 {
         return common;
@@ -467,18 +469,19 @@ pub fn days_before_month(year: u32, month: u32) -> u32
     if is_leap(year) { common + 1 } else { common }
 }
 
-// The whole table.
+// The table, whose rule is proved here once for all 400 entries.
 fn first_of_years() -> [u32; 400]
     ensures { λ r. ⌜ ((k : ℕ) → k < 400 → getD r k 0 ≡ beforeYear (suc k) + 1) ⌝ }
 {
     FIRST_OF_YEAR
 }
 
-// Inner: the serial day of 1 January of a year of the calendar, by the table. Each call writes the table out, so what must be quick counts instead.
+// Inner: the serial day of 1 January, by the table; asks for a year from 1 to 9999.
 pub fn first_of_year(year: u32) -> u32
     requires { ⌜ (1 ≤ year) × (year ≤ 9999) ⌝ }
     ensures { λ r. ⌜ r ≡ beforeYear year + 1 ⌝ }
 {
+    // Each call writes the table out, so what must be quick counts instead.
     let first = first_of_years();
     let past = year - 1;
     past / 400 * 146097 + first[(past % 400) as usize]

@@ -26,6 +26,7 @@ pub enum WeekdayAnswer {
     Refused(u32),
 }
 
+// The serial day of a date; refused 1.
 pub fn day_of(t: Date) -> DayAnswer
     ensures { λ r. ⌜ DayOfPromise t r ⌝ }
 {
@@ -37,6 +38,7 @@ pub fn day_of(t: Date) -> DayAnswer
     }
 }
 
+// The date of a serial day; refused 1.
 pub fn date_of(d: Day) -> DateAnswer
     ensures { λ r. ⌜ DateOfPromise d r ⌝ }
 {
@@ -47,6 +49,7 @@ pub fn date_of(d: Day) -> DateAnswer
     }
 }
 
+// The weekday of a serial day, Monday 1 to Sunday 7; refused 1.
 pub fn weekday(d: Day) -> WeekdayAnswer
     ensures { λ r. ⌜ WeekdayPromise d r ⌝ }
 {
@@ -57,7 +60,7 @@ pub fn weekday(d: Day) -> WeekdayAnswer
     }
 }
 
-// The day count from one serial day to another that is not before it.
+// The day count from one serial day to another that is not before it; refused 1, 19.
 pub fn days_between(from: Day, to: Day) -> DaysAnswer
     ensures { λ r. ⌜ DaysBetweenPromise from to r ⌝ }
 {
@@ -73,7 +76,7 @@ pub fn days_between(from: Day, to: Day) -> DaysAnswer
     DaysAnswer::Days(Days(to.0 - from.0))
 }
 
-// The serial day that lies a day count after another.
+// The serial day that lies a day count after another; refused 1.
 pub fn day_after(d: Day, s: Days) -> DayAnswer
     ensures { λ r. ⌜ DayAfterPromise d s r ⌝ }
 {

@@ -23,7 +23,7 @@ fn is_capital(b: u8) -> bool
     b <= b'Z'
 }
 
-// Three capitals.
+// Whether a currency is three capital letters.
 pub fn is_currency(c: Currency) -> bool
     ensures { λ r. ⌜ r ≡ isCurrency c ⌝ }
 {
@@ -36,7 +36,7 @@ pub fn is_currency(c: Currency) -> bool
     is_capital(c.third)
 }
 
-// Whether two currencies have the same letters; it refuses nothing.
+// Whether two currencies have the same three letters.
 pub fn is_same_currency(a: Currency, b: Currency) -> bool
     ensures { λ r. ⌜ r ≡ isSameCurrency a b ⌝ }
 {
@@ -49,10 +49,11 @@ pub fn is_same_currency(a: Currency, b: Currency) -> bool
     a.third == b.third
 }
 
-// Finite, from -1e9 to 1e9; a negative zero is one of them, and no comparison holds of a NaN.
+// Whether a number is finite, from -1e9 to 1e9; -0.0 is one.
 pub fn is_up_to_billion(x: f64) -> bool
     ensures { λ r. ⌜ r ≡ upTo 1000000000 x ⌝ }
 {
+    // No comparison holds of a NaN.
     if x <= 1e9 {
         return -1e9 <= x;
     }

@@ -28,17 +28,18 @@ fn no_date() -> Date
     }
 }
 
-// Inner: a day in a plain list is judged by who reads the list. Its date; one that does not exist for a day that does not.
+// Inner: the date of a serial day in a plain list; 0-0-0 for a day that does not exist.
 pub fn date_or_none(day: u32) -> Date
     ensures { λ r. ⌜ r ≡ dateOn day ⌝ }
 {
+    // Who reads the list judges its days.
     match calendar::date_of(Day(day)) {
         DateAnswer::Date(date) => date,
         DateAnswer::Refused(_n) => no_date(),
     }
 }
 
-// The same date and the same currency; it refuses nothing, and neither has to exist.
+// Whether two flows have the same date and the same currency, which need not exist.
 pub fn aggregatable(a: CashFlow, b: CashFlow) -> bool
     ensures { λ r. ⌜ AggregatablePromise a b r ⌝ }
 {
@@ -58,7 +59,8 @@ fn is_within(d: f64, tol: f64) -> bool
     d <= tol
 }
 
-// Equal within a tolerance; it refuses nothing.
+// Whether two flows have the same date, the same currency and amounts within a tolerance of each
+// other.
 pub fn fuzzy_cash_flows_cmp_eq(a: CashFlow, b: CashFlow, tol: f64) -> bool
     ensures { λ r. ⌜ ComparisonPromise a b tol r ⌝ }
 {

@@ -65,7 +65,7 @@ fn round(y: f64) -> f64
     whole
 }
 
-// A zero keeps its sign: -0.3 at 0 digits is -0.0.
+// An amount rounded to 0 to 4 digits, halves away from zero, a zero with its sign; refused 15.
 pub fn round2digits(x: f64, digits: i32) -> AmountAnswer
     ensures { λ r. ⌜ RoundPromise x digits r ⌝ }
 {

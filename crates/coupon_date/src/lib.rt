@@ -14,7 +14,7 @@ pub enum CouponAnswer {
 // Any year that is not a leap year will do: 29.02 is no coupon date.
 const COMMON_YEAR: u32 = 2019;
 
-// The check of a pair of numbers.
+// The coupon date of a day and a month; refused 7, 8.
 pub fn new_coupon_date(day: u32, month: u32) -> CouponAnswer
     ensures { λ r. ⌜ NewPromise day month r ⌝ }
 {

@@ -58,7 +58,7 @@ fn in_month(index: u32, day: u32) -> Date
     Date { year, month, day }
 }
 
-// Inner: months added to a date that is already judged.
+// Inner: the date so many months on, its day cut; asks for a date that exists.
 pub fn months_later(t: Date, n: i32) -> DateAnswer
     requires { ⌜ isDate t ≡ true ⌝ }
     ensures { λ r. ⌜ dateOutcome r ≡ monthsLater t n ⌝ }
@@ -70,7 +70,7 @@ pub fn months_later(t: Date, n: i32) -> DateAnswer
     }
 }
 
-// Moves the month, then cuts the day to the month's last.
+// The date so many months on, its day cut to the month's last; refused 1.
 pub fn add_months(t: Date, n: i32) -> DateAnswer
     ensures { λ r. ⌜ AddMonthsPromise t n r ⌝ }
 {
@@ -81,7 +81,7 @@ pub fn add_months(t: Date, n: i32) -> DateAnswer
     }
 }
 
-// A date, where there is one.
+// The date itself where it exists; else refused 1.
 fn existing(t: Date) -> DateAnswer
     ensures { λ r. ⌜ dateOutcome r ≡ existingDate t ⌝ }
 {
@@ -92,7 +92,7 @@ fn existing(t: Date) -> DateAnswer
     }
 }
 
-// Inner: years added to a date that is already judged.
+// Inner: the same month and day so many years on; asks for a date that exists.
 pub fn years_later(t: Date, n: i32) -> DateAnswer
     requires { ⌜ isDate t ≡ true ⌝ }
     ensures { λ r. ⌜ dateOutcome r ≡ yearsLater t n ⌝ }
@@ -107,7 +107,7 @@ pub fn years_later(t: Date, n: i32) -> DateAnswer
     }
 }
 
-// The same month and day, refused where that year has no such date.
+// The same month and day so many years on; refused 1, also where that year has no such day.
 pub fn add_years(t: Date, n: i32) -> DateAnswer
     ensures { λ r. ⌜ AddYearsPromise t n r ⌝ }
 {
@@ -118,21 +118,23 @@ pub fn add_years(t: Date, n: i32) -> DateAnswer
     }
 }
 
-// Inner: days added to a date that is already judged. Counted from 0, so that one test finds both ends of the calendar.
+// Inner: the date so many days on; asks for a date that exists and fewer than 2^34 days.
 pub fn days_later(t: Date, n: i64) -> DateAnswer
     requires { ⌜ (isDate t ≡ true) × (mag n < 17179869184) ⌝ }
     ensures { λ r. ⌜ dateOutcome r ≡ daysLater t n ⌝ }
 {
+    // Counted from 0, so that the compiler makes one test of those for both ends of the calendar.
     match moved(calendar::day_of_date(t) - 1, n, LAST_DAY_INDEX) {
         MovedAnswer::To(i) => DateAnswer::Date(calendar::date_of_day(i + 1)),
         MovedAnswer::Refused(k) => DateAnswer::Refused(k),
     }
 }
 
-// Every 64-bit number of days is answered, so that weeks need no rule of their own.
+// The date so many days on; refused 1.
 pub fn add_days(t: Date, n: i64) -> DateAnswer
     ensures { λ r. ⌜ AddDaysPromise t n r ⌝ }
 {
+    // Every 64-bit number of days is answered, so that weeks need no rule of their own.
     if !calendar::is_date(t) {
         return DateAnswer::Refused(outcome::INVALID_DATE);
     }

@@ -112,21 +112,25 @@ fn moved_date(rule: DayAdjust, t: Date, n: u32, table: &[u32], i: usize) -> Date
     }
 }
 
-// Inner: of a date, its serial day, that day's place among the holidays, and holidays already judged, so that a rollout judges its table once and searches it once.
+// Inner: the adjusted date; asks for a date that exists, its day and its place among the holidays.
 pub fn adjust_at(rule: DayAdjust, t: Date, n: u32, table: &[u32], i: usize) -> DateAnswer
     requires { ⌜ (isDate t ≡ true) × (n ≡ dayNumber t) × (ascending (now table) ≡ true) × (IsLowerBound (now table) n i) ⌝ }
     ensures { λ r. ⌜ dateOutcome r ≡ adjusted rule t (now (table .entry)) ⌝ }
 {
+    // A rollout judges its table once and searches it once.
     if business_days::business_at(n, table, i) {
         return DateAnswer::Date(t);
     }
     moved_date(rule, t, n, table, i)
 }
 
-// The last steps are those of `adjust_at` in words of its own: most dates stay, and then no call is made.
+// The date that a date is adjusted to by one of four rules; refused 1, 13 (under none too), then 1
+// for the result.
 pub fn adjust_date(rule: DayAdjust, t: Date, table: &[u32]) -> DateAnswer
     ensures { λ r. ⌜ AdjustPromise rule t (now (table .entry)) r ⌝ }
 {
+    // The last steps are those of `adjust_at`, written out: most dates stay, and then no call is
+    // made.
     if !calendar::is_date(t) {
         return DateAnswer::Refused(outcome::INVALID_DATE);
     }

@@ -69,7 +69,7 @@ pub enum ConventionAnswer {
     Refused(u32),
 }
 
-// Inner: a fraction by 30/360 or 30E/360, unless it is 0 on two different dates.
+// Inner: a fraction by 30/360 or 30E/360, refused 9 where it is 0; asks for dates in order.
 pub(crate) fn unless_zero(start: Date, end: Date, fraction: f64) -> YearFraction
     requires { ⌜ Span start end ⌝ }
     ensures { λ r. ⌜ fractionOutcome r ≡ unless (not (impossible simple.D30_360 start end)) 9 (given fraction) ⌝ }
@@ -127,7 +127,7 @@ fn frequent(p: TimePeriod, start: Date, end: Date, roll: Date) -> YearFraction
     }
 }
 
-// Inner: by ICMA alone, of dates already judged.
+// Inner: the fraction by ICMA; asks for dates that exist, in order, and a roll date that exists.
 pub(crate) fn act_act_icma(x: NoteTerms, start: Date, end: Date) -> YearFraction
     requires { ⌜ (isDate start ≡ true) × (isDate end ≡ true) × (dayNumber start ≤ dayNumber end) × (rollDateExists (x .roll) ≡ true) ⌝ }
     ensures { λ r. ⌜ fractionOutcome r ≡ icmaFraction fractionsInF64 (x .roll) (x .period) start end ⌝ }
@@ -143,7 +143,7 @@ pub(crate) fn act_act_icma(x: NoteTerms, start: Date, end: Date) -> YearFraction
     }
 }
 
-// Inner: one whole period takes no walk.
+// Inner: the fraction of one whole period by ICMA, which takes no walk.
 pub(crate) fn whole_period(p: TimePeriod) -> YearFraction
     ensures { λ r. ⌜ fractionOutcome r ≡ wholePeriod p ⌝ }
 {

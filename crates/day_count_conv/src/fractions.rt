@@ -25,7 +25,8 @@ fn roll_dated(convention: DayCountConv, x: NoteTerms) -> bool
     }
 }
 
-// The year fraction from start to end.
+// The year fraction from start to end, finql's f64, within 1/2^38 of the exact fraction; refused 1,
+// 19, 10, 11, 5, 14, then 1 or 9.
 pub fn year_fraction(convention: DayCountConv, start: Date, end: Date, x: NoteTerms) -> YearFraction
     ensures { λ r. ⌜ FractionPromise convention start end x r ⌝ }
 {
@@ -44,10 +45,11 @@ pub fn year_fraction(convention: DayCountConv, start: Date, end: Date, x: NoteTe
     crate::judged::fraction_judged(convention, start, end, x)
 }
 
-// Inner: the same with no roll date and no period, for `c_face`. Its one caller takes it in whole, which is why the rules stand here once more.
+// Inner: the year fraction with no roll date and no period; refused 1, 19, 10, 9.
 pub fn fraction_between(convention: DayCountConv, from: Date, to: Date) -> YearFraction
     ensures { λ r. ⌜ FractionPromise convention from to noTerms r ⌝ }
 {
+    // Its one caller, the C face, takes it in whole, which is why the rules stand here once more.
     if !calendar::is_date(from) {
         return YearFraction::Refused(outcome::INVALID_DATE);
     }

@@ -11,7 +11,7 @@ use crate::conventions::YearFraction;
 use calendar::Date;
 use time_period::TimePeriod;
 
-// Inner: of dates already judged, the start not after the end, so that a rollout does not judge its own dates.
+// Inner: the year fraction; asks for dates in order, and under ICMA a roll date that exists.
 pub fn fraction_judged(
     convention: DayCountConv,
     start: Date,
@@ -21,6 +21,7 @@ pub fn fraction_judged(
     requires { ⌜ (Span start end) × (rollDated convention (x .roll) ≡ true) ⌝ }
     ensures { λ r. ⌜ fractionOutcome r ≡ byRule fractionsInF64 convention start end x ⌝ }
 {
+    // A rollout does not judge its own dates again.
     match convention {
         DayCountConv::Act365 => YearFraction::Fraction(day_fraction::calc_act_365(start, end)),
         DayCountConv::Act360 => YearFraction::Fraction(day_fraction::calc_act_360(start, end)),
@@ -42,7 +43,7 @@ pub fn fraction_judged(
     }
 }
 
-// Inner: of a period from a date to the one that it leads to, rolled from its start, so that a rollout steps once.
+// Inner: the fraction of a period rolled from its start; asks for dates in order, a period apart.
 pub fn fraction_of_period(
     convention: DayCountConv,
     p: TimePeriod,
@@ -52,6 +53,7 @@ pub fn fraction_of_period(
     requires { ⌜ (Span from to) × (step p from ≡ given to) ⌝ }
     ensures { λ r. ⌜ fractionOutcome r ≡ byRule fractionsInF64 convention from to (rolledFrom from p) ⌝ }
 {
+    // A rollout steps once.
     if let DayCountConv::ActActICMA = convention {
         return crate::conventions::whole_period(p);
     }

@@ -29,7 +29,7 @@ fn power_of_two(p: usize) -> u64
     1 << p
 }
 
-// The last digits of n * 2^twos, as many as there are bytes.
+// The last decimal digits of n x 2^twos, one in each lent byte.
 pub fn put_scaled(n: u64, twos: usize, out: &mut [u8])
     ensures { λ _. ⌜ Scaled n twos (now (out .entry)) (now (out .exit)) ⌝ }
 {
@@ -43,7 +43,7 @@ pub fn put_scaled(n: u64, twos: usize, out: &mut [u8])
     multiply(power_of_two(left), out);
 }
 
-// How many bytes '0' stand before any other.
+// How many bytes `0` stand in front of any other byte.
 pub fn leading_zeros(s: &[u8]) -> usize
     ensures { λ r. ⌜ CountsZeros (now (s .entry)) r ⌝ }
 {

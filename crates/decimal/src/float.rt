@@ -78,7 +78,7 @@ fn parts_of(x: f64) -> Parts
     parts_of_bits(f64::to_bits(x))
 }
 
-// How many bytes the text of x takes.
+// How many bytes an f64 with four decimals takes; refused 15 where it is not finite.
 pub fn decimal_length(x: f64) -> LengthAnswer
     ensures { λ r. ⌜ DecimalTakes x r ⌝ }
 {
@@ -94,7 +94,7 @@ pub fn decimal_length(x: f64) -> LengthAnswer
     }
 }
 
-// Inner: the caller has seen that x is finite and that there is room.
+// Inner: the text of an f64 at a place; asks for a finite number and room.
 pub fn put_decimal_at(x: f64, out: &mut [u8], at: usize) -> usize
     requires { ⌜ finite x ≡ true ⌝ }
     requires { ⌜ at + length (decimalText16 x) ≤ length (now out) ⌝ }
@@ -113,7 +113,8 @@ pub fn put_decimal_at(x: f64, out: &mut [u8], at: usize) -> usize
     }
 }
 
-// What `{:16.4}` of an f64 writes.
+// An f64 with four decimals of its exact value, a half to the even digit, in at least 16 columns in
+// front of the lent bytes; refused 15, 16.
 pub fn write_decimal(x: f64, out: &mut [u8]) -> LengthAnswer
     ensures { λ r. ⌜ DecimalWrites x (now (out .entry)) (now (out .exit)) r ⌝ }
 {

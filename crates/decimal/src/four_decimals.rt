@@ -58,7 +58,7 @@ fn put_tens(tens: u64, count: usize, out: &mut [u8], at: usize) -> usize
     put_fraction(tens, out, next)
 }
 
-// Inner: the caller has seen that there is room.
+// Inner: the text of so many ten-thousandths at a place; asks for room.
 pub(crate) fn put_small(negative: bool, tens: u64, out: &mut [u8], at: usize) -> usize
     requires { ⌜ at + length (signedDecimals negative tens) ≤ length (now out) ⌝ }
     ensures { λ r. ⌜ Wrote (now (out .entry)) (now (out .exit)) at (signedDecimals negative tens) r ⌝ }
@@ -68,10 +68,11 @@ pub(crate) fn put_small(negative: bool, tens: u64, out: &mut [u8], at: usize) ->
     put_tens(tens, count, out, first)
 }
 
-// Inner: how many bytes the text takes. Below ten thousand million a number fills the 16 columns at the most, and nothing need be counted.
+// Inner: how many bytes the text of so many ten-thousandths takes.
 pub(crate) fn small_length(negative: bool, tens: u64) -> usize
     ensures { λ r. ⌜ r ≡ length (signedDecimals negative tens) ⌝ }
 {
+    // Below ten thousand million a number fills the 16 columns at the most: nothing is counted.
     if tens < 100_000_000_000_000 {
         return 16;
     }
@@ -145,7 +146,7 @@ fn put_by_digits(
     put_array(negative, space, out, at)
 }
 
-// Inner: the caller has seen that there is room. The text of the number n times so many factors two.
+// Inner: the text of n x 2^twos ten-thousandths; asks for n below 2^63, twos up to 975 and room.
 pub(crate) fn put_large(negative: bool, n: u64, twos: usize, out: &mut [u8], at: usize) -> usize
     requires { ⌜ n < 2 ^ 63 ⌝ }
     requires { ⌜ twos ≤ 975 ⌝ }
@@ -166,7 +167,7 @@ fn size_by_digits(n: u64, twos: usize, space: &mut [u8]) -> usize
     space.len() + 1 - whole_start(space)
 }
 
-// Inner: how many bytes the text of the number n times so many factors two takes.
+// Inner: how many bytes n x 2^twos ten-thousandths take; asks for n below 2^63 and twos up to 975.
 pub(crate) fn large_length(negative: bool, n: u64, twos: usize) -> usize
     requires { ⌜ n < 2 ^ 63 ⌝ }
     requires { ⌜ twos ≤ 975 ⌝ }

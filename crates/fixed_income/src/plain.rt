@@ -70,7 +70,8 @@ fn write_plain(
     }
 }
 
-// Flows after a serial day, over plain lists: a flow is what stands at one place of each of the three, so there are as many as the shortest has.
+// The flows of three plain lists strictly later than a serial day, in order, in three lent lists,
+// and their count; refused 1, 16.
 pub fn flows_after_plain(
     day: Day,
     days: &[u32],
@@ -82,6 +83,7 @@ pub fn flows_after_plain(
 ) -> FlowsAnswer
     ensures { λ r. ⌜ FlowsAfterPlainPromise day (plainFlows (now (days .entry)) (now (currencies .entry)) (now (amounts .entry))) (now («out_days» .entry)) (now («out_currencies» .entry)) (now («out_amounts» .entry)) r (now («out_days» .exit)) (now («out_currencies» .exit)) (now («out_amounts» .exit)) ⌝ }
 {
+    // A flow stands at one place of each list, so there are as many as the shortest has.
     let n = shortest_of(days.len(), currencies.len(), amounts.len());
     let places = shortest_of(out_days.len(), out_currencies.len(), out_amounts.len());
     match answer_plain(day, &days[..n], places) {

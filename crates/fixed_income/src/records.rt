@@ -54,7 +54,7 @@ fn answer_after(flows: &[CashFlow], date: Date, places: usize) -> FlowsAnswer
     FlowsAnswer::Flows(n)
 }
 
-// Flows strictly later than a date, in order.
+// The records strictly later than a date, in order, in lent room, and their count; refused 1, 16.
 pub fn get_cash_flows_after(flows: &[CashFlow], date: Date, room: &mut [CashFlow]) -> FlowsAnswer
     ensures { λ r. ⌜ AfterPromise (now (flows .entry)) date (now (room .entry)) r (now (room .exit)) ⌝ }
 {

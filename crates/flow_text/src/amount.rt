@@ -23,7 +23,7 @@ fn put_currency(c: Currency, out: &mut [u8], at: usize) -> usize
     number_text::put_bytes(&letters, out, at)
 }
 
-// Inner: the caller has seen that x is finite and that there is room. The amount and its currency.
+// Inner: an amount and its currency at a place; asks for a finite amount and room.
 pub(crate) fn put_amount_at(x: f64, currency: Currency, out: &mut [u8], at: usize) -> usize
     requires { ⌜ finite x ≡ true ⌝ }
     requires { ⌜ at + length (amountText x currency) ≤ length (now out) ⌝ }
@@ -33,7 +33,7 @@ pub(crate) fn put_amount_at(x: f64, currency: Currency, out: &mut [u8], at: usiz
     put_currency(currency, out, next)
 }
 
-// How many bytes an amount and its currency take.
+// How many bytes an amount and its currency take; refused 15, 17.
 pub fn amount_length(x: f64, currency: Currency) -> LengthAnswer
     ensures { λ r. ⌜ AmountTakes x currency r ⌝ }
 {
@@ -48,7 +48,7 @@ pub fn amount_length(x: f64, currency: Currency) -> LengthAnswer
     }
 }
 
-// What `Display` of a `CashAmount` writes.
+// An amount with four decimals and its currency, in front of the lent bytes; refused 15, 17, 16.
 pub fn write_amount(x: f64, currency: Currency, out: &mut [u8]) -> LengthAnswer
     ensures { λ r. ⌜ AmountWrites x currency (now (out .entry)) (now (out .exit)) r ⌝ }
 {

@@ -30,7 +30,7 @@ fn put_month_and_day(t: Date, out: &mut [u8], at: usize) -> usize
     put_two(t.day, out, next)
 }
 
-// Inner: the caller has seen that the date exists and that there is room. yyyy-mm-dd.
+// Inner: a date as yyyy-mm-dd at a place; asks for a date that exists and room.
 pub(crate) fn put_date_at(t: Date, out: &mut [u8], at: usize) -> usize
     requires { ⌜ isDate t ≡ true ⌝ }
     requires { ⌜ at + length (dateText t) ≤ length (now out) ⌝ }
@@ -40,7 +40,7 @@ pub(crate) fn put_date_at(t: Date, out: &mut [u8], at: usize) -> usize
     put_month_and_day(t, out, next)
 }
 
-// What `Display` of a date writes.
+// A date as yyyy-mm-dd, in front of the lent bytes; refused 1, 16.
 pub fn write_date(t: Date, out: &mut [u8]) -> LengthAnswer
     ensures { λ r. ⌜ DateWrites t (now (out .entry)) (now (out .exit)) r ⌝ }
 {

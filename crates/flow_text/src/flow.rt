@@ -25,7 +25,7 @@ fn put_behind(x: f64, currency: Currency, out: &mut [u8], at: usize) -> usize
     crate::amount::put_amount_at(x, currency, out, at + 1)
 }
 
-// Inner: the caller has seen that the amount is finite, that the date exists and that there is room.
+// Inner: a flow's text at a place; asks for a finite amount, a date that exists and room.
 pub fn put_cash_flow_at(flow: CashFlow, out: &mut [u8], at: usize) -> usize
     requires { ⌜ (finite (flow .amount) ≡ true) × (isDate (flow .date) ≡ true) ⌝ }
     requires { ⌜ at + length (flowText flow) ≤ length (now out) ⌝ }
@@ -35,7 +35,7 @@ pub fn put_cash_flow_at(flow: CashFlow, out: &mut [u8], at: usize) -> usize
     put_behind(flow.amount, flow.currency, out, next)
 }
 
-// How many bytes a flow takes.
+// How many bytes a flow's date, amount and currency take; refused 15, 17, 1.
 pub fn cash_flow_length(flow: CashFlow) -> LengthAnswer
     ensures { λ r. ⌜ FlowTakes flow r ⌝ }
 {
@@ -50,7 +50,7 @@ pub fn cash_flow_length(flow: CashFlow) -> LengthAnswer
     }
 }
 
-// What `Display` of a `CashFlow` writes.
+// A flow's date, amount and currency, in front of the lent bytes; refused 15, 17, 1, 16.
 pub fn write_cash_flow(flow: CashFlow, out: &mut [u8]) -> LengthAnswer
     ensures { λ r. ⌜ FlowWrites flow (now (out .entry)) (now (out .exit)) r ⌝ }
 {

@@ -22,7 +22,7 @@ fn put_refusal(n: u32, out: &mut [u8]) -> usize
     put_number(n, out, at)
 }
 
-// Inner: `refused N` and a line feed, or 16.
+// Inner: `refused N` and a line feed, in front of the lent bytes; refused 16.
 pub fn write_refusal(n: u32, out: &mut [u8]) -> LengthAnswer
     ensures { λ r. ⌜ (Written (now (out .entry)) (now (out .exit)) (refusedText n) (lengthOutcome r)) × (length (refusedText n) ≤ 19) ⌝ }
 {

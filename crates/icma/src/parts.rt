@@ -184,12 +184,12 @@ fn leads(p: TimePeriod, from: Date, to: Date) -> bool
     }
 }
 
-// Inner: the parts between two dates already judged, of a period already seen to be at least 1. Day counts follow by division.
-// A coupon is most often one period from its roll date, which takes no walk.
+// Inner: the parts of ICMA; asks for dates in order, a roll date that exists and a period above 0.
 pub fn icma_parts(p: TimePeriod, start: Date, end: Date, roll: Date) -> PartsAnswer
     requires { ⌜ (isDate start ≡ true) × (isDate end ≡ true) × (dayNumber start ≤ dayNumber end) × (isDate roll ≡ true) × (ltZ (pos 0) (p .num) ≡ true) ⌝ }
     ensures { λ r. ⌜ partsOutcome r ≡ icmaParts p start end roll ⌝ }
 {
+    // Day counts follow by division. A coupon is most often one period from its roll date: no walk.
     if calendar::is_same(roll, start) {
         if leads(p, start, end) {
             return PartsAnswer::Parts(Parts::Long(Broken::Nothing, Broken::Nothing, 1));

@@ -133,7 +133,7 @@ fn skip_back(q: TimePeriod, from: Date, limit: Date) -> Walked
     Walked { at, count }
 }
 
-// Inner: on until not before the limit, by a period above 0, from a date already judged that has counted no more than the days it passed.
+// Inner: on until not before the limit; asks for a period above 0 and a count up to its day.
 pub(crate) fn walk_on(p: TimePeriod, from: Walked, limit: Date) -> WalkAnswer
     requires { ⌜ (isDate (from .at) ≡ true) × (from .count ≤ dayNumber (from .at)) × (ltZ (pos 0) (p .num) ≡ true) ⌝ }
     ensures { λ r. ⌜ walkOutcome r ≡ walk 3652060 (λ u. isBefore u limit) (turnOn p limit) from ⌝ }
@@ -150,7 +150,7 @@ pub(crate) fn walk_on(p: TimePeriod, from: Walked, limit: Date) -> WalkAnswer
     WalkAnswer::Walked(w)
 }
 
-// Inner: back until not after the limit, by a period below 0, and the same asked of where it begins.
+// Inner: back until not after the limit; asks for a period below 0 and a count up to the days left.
 pub(crate) fn walk_back(q: TimePeriod, from: Walked, limit: Date) -> WalkAnswer
     requires { ⌜ (isDate (from .at) ≡ true) × (from .count + dayNumber (from .at) ≤ 3652059) × (ltZ (q .num) (pos 0) ≡ true) ⌝ }
     ensures { λ r. ⌜ walkOutcome r ≡ walk 3652060 (λ u. isBefore limit u) (turnBack q limit) from ⌝ }
@@ -167,8 +167,7 @@ pub(crate) fn walk_back(q: TimePeriod, from: Walked, limit: Date) -> WalkAnswer
     WalkAnswer::Walked(w)
 }
 
-// Inner: from the roll date, of dates already judged: on while before start, then back while after end.
-// It may lie far from both, so that these walks leap first.
+// Inner: from the roll date on to start, then back to end; asks for dates that exist.
 pub(crate) fn base_from(
     p: TimePeriod,
     q: TimePeriod,
@@ -179,6 +178,7 @@ pub(crate) fn base_from(
     requires { ⌜ (isDate start ≡ true) × (isDate end ≡ true) × (isDate roll ≡ true) × (ltZ (pos 0) (p .num) ≡ true) × (ltZ (q .num) (pos 0) ≡ true) ⌝ }
     ensures { λ r. ⌜ walkOutcome r ≡ baseFrom p q start end roll ⌝ }
 {
+    // The roll date may lie far from both, so that these walks leap first.
     match walk_on(p, skip_on(p, roll, start), start) {
         WalkAnswer::Walked(a) => walk_back(q, skip_back(q, a.at, end), end),
         WalkAnswer::Refused(k) => WalkAnswer::Refused(k),

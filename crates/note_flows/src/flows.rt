@@ -93,7 +93,7 @@ fn next_flow_near(note: Note, position: f64, table: &[u32], hint: usize, due: Du
     }
 }
 
-// Inner: one step of a note, a position and a table already judged.
+// Inner: one step of a note; asks for a checked note, position and table, and a date that exists.
 pub fn next_flow(note: Note, position: f64, table: &[u32], due: Due) -> Step
     requires { ⌜ (JudgedNote note position (now table)) × (Dated due) ⌝ }
     ensures { λ r. ⌜ Turned note position (now (table .entry)) due r ⌝ }
@@ -119,7 +119,7 @@ fn keep_amount(amounts: &mut [f64], k: usize, amount: f64)
     }
 }
 
-// Inner: how many flows there are, or the first refusal; the days and amounts are kept, where there are places for all.
+// Inner: how many flows a note has, or its refusal; asks for a checked note, position and table.
 pub fn collect(
     note: Note,
     position: f64,
@@ -131,6 +131,7 @@ pub fn collect(
     ensures { λ r. ⌜ flowsOutcome r ≡ counted (noteFlows note position (now (table .entry))) ⌝ }
     ensures { λ _. ⌜ Kept note position (now (table .entry)) (now (days .entry)) (now (amounts .entry)) (now (days .exit)) (now (amounts .exit)) ⌝ }
 {
+    // Days and amounts are kept, where there are places for all.
     let mut k: usize = 0;
     let mut hint = NO_HINT;
     let mut due = Due::First;

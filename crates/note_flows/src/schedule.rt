@@ -60,7 +60,7 @@ fn event_after(note: Note, end: Date) -> Event
     }
 }
 
-// Inner: what comes next, by what is due.
+// Inner: what comes next, by what is due; asks for a date that exists.
 pub(crate) fn next_event(note: Note, due: Due) -> Event
     requires { ⌜ Dated due ⌝ }
     ensures { λ r. ⌜ r ≡ eventOf note due ⌝ }
@@ -107,11 +107,12 @@ fn coupon_payment(note: Note, position: f64, end: Date, found: YearFraction) -> 
     }
 }
 
-// Inner: what comes, as an amount. All of these but `owed_for` have one caller, so that the compiler keeps them out of memory.
+// Inner: what comes, as an amount; asks for dates in order, a later coupon's a period apart.
 pub(crate) fn payment_for(note: Note, position: f64, c: Event) -> Payment
     requires { ⌜ Spanned note c ⌝ }
     ensures { λ r. ⌜ r ≡ paymentOf note position c ⌝ }
 {
+    // All but `coupon_payment` have one caller, so that the compiler keeps them out of memory.
     match c {
         Event::First(start, end) => {
             coupon_payment(note, position, end, first_fraction(note, start, end))

@@ -72,7 +72,7 @@ fn put_lines(currency: Currency, days: &[u32], amounts: &[f64], out: &mut [u8])
     }
 }
 
-// Inner: all lines, or the first refusal.
+// Inner: all lines, or the first refusal; asks for at most 2,000 days and an amount for each.
 pub(crate) fn list_lines(
     currency: Currency,
     days: &[u32],

@@ -24,7 +24,8 @@ fn list_flows(note: Note, table: &[u32], out: &mut [u8]) -> LengthAnswer
     }
 }
 
-// The listing of a packed note, at the start of the lent bytes: its flows, or `refused N`. No listing is longer than 662,000 bytes.
+// The listing of a packed note in lent bytes, its flows or `refused N`, at most 662,000 bytes;
+// refused 16.
 pub fn list_note(s: &[u8], out: &mut [u8]) -> LengthAnswer
     ensures { λ r. ⌜ (ListPromise (now (s .entry)) (now (out .entry)) (now (out .exit)) r) × (length (listing (now (s .entry))) ≤ 662000) ⌝ }
 {

@@ -1,7 +1,7 @@
 // How long the text of a number is, as Rust's `Display` of integers writes it.
 ghost use Rattle.number_text.specs.length.NumberTexts.{TakesDecimal, TakesPadded, TakesSigned};
 
-// How many bytes the shortest decimal of n takes.
+// How many bytes the shortest decimal of a number takes.
 pub fn decimal_length(n: u64) -> usize
     ensures { λ r. ⌜ TakesDecimal n r ⌝ }
 {
@@ -14,7 +14,7 @@ pub fn decimal_length(n: u64) -> usize
     k
 }
 
-// How many bytes the decimal of n takes with leading zeros to at least `width` digits.
+// How many bytes a number takes with leading zeros to at least `width` digits.
 pub fn padded_length(n: u64, width: usize) -> usize
     ensures { λ r. ⌜ TakesPadded width n r ⌝ }
 {
@@ -22,7 +22,7 @@ pub fn padded_length(n: u64, width: usize) -> usize
     if k < width { width } else { k }
 }
 
-// How many bytes the text of n takes.
+// How many bytes the shortest decimal of a signed number takes.
 pub fn signed_length(n: i32) -> usize
     ensures { λ r. ⌜ TakesSigned n r ⌝ }
 {

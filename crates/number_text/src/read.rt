@@ -14,10 +14,11 @@ pub enum SignedAnswer {
     Refused(u32),
 }
 
-// A decimal without a sign. It stops once the number is past `most`, so no length of text can make it wrap.
+// The number of a decimal without a sign, at most `most`; else refused with the caller's number.
 pub fn read_decimal(s: &[u8], most: u32, refusal: u32) -> NumberAnswer
     ensures { λ r. ⌜ ReadsDecimal most refusal (now (s .entry)) r ⌝ }
 {
+    // It stops once the number is past `most`, so no length of text can make it wrap.
     if s.len() == 0 {
         return NumberAnswer::Refused(refusal);
     }
@@ -41,7 +42,7 @@ pub fn read_decimal(s: &[u8], most: u32, refusal: u32) -> NumberAnswer
     NumberAnswer::Number(v as u32)
 }
 
-// What `parse` of a u32 reads.
+// The number of a decimal of 32 bits, `+` allowed; else refused with the caller's number.
 pub fn read_u32(s: &[u8], refusal: u32) -> NumberAnswer
     ensures { λ r. ⌜ ReadsUnsigned refusal (now (s .entry)) r ⌝ }
 {
@@ -79,7 +80,8 @@ fn read_from_zero(s: &[u8], refusal: u32) -> SignedAnswer
     }
 }
 
-// What `parse` of an i32 reads.
+// The number of a signed decimal of 32 bits, `-` and `+` allowed; else refused with the caller's
+// number.
 pub fn read_i32(s: &[u8], refusal: u32) -> SignedAnswer
     ensures { λ r. ⌜ ReadsSigned refusal (now (s .entry)) r ⌝ }
 {

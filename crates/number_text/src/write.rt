@@ -11,7 +11,7 @@ pub enum LengthAnswer {
     Refused(u32),
 }
 
-// Inner: the caller has seen that there is room. The last `count` decimal digits of n.
+// Inner: the last `count` decimal digits of n at a place; asks for room.
 pub fn put_digits(n: u64, count: usize, out: &mut [u8], at: usize) -> usize
     requires { ⌜ at + count ≤ length (now out) ⌝ }
     ensures { λ r. ⌜ Wrote (now (out .entry)) (now (out .exit)) at (digits count n) r ⌝ }
@@ -26,7 +26,7 @@ pub fn put_digits(n: u64, count: usize, out: &mut [u8], at: usize) -> usize
     at + count
 }
 
-// Inner: the caller has seen that there is room. One byte, `count` times.
+// Inner: one byte, `count` times, at a place; asks for room.
 pub fn put_run(b: u8, count: usize, out: &mut [u8], at: usize) -> usize
     requires { ⌜ at + count ≤ length (now out) ⌝ }
     ensures { λ r. ⌜ Wrote (now (out .entry)) (now (out .exit)) at (replicate count b) r ⌝ }
@@ -39,7 +39,7 @@ pub fn put_run(b: u8, count: usize, out: &mut [u8], at: usize) -> usize
     at + count
 }
 
-// Inner: the caller has seen that there is room. The bytes of s.
+// Inner: the bytes of s at a place; asks for room.
 pub fn put_bytes(s: &[u8], out: &mut [u8], at: usize) -> usize
     requires { ⌜ at + length (now s) ≤ length (now out) ⌝ }
     ensures { λ r. ⌜ Wrote (now (out .entry)) (now (out .exit)) at (now (s .entry)) r ⌝ }
@@ -52,7 +52,7 @@ pub fn put_bytes(s: &[u8], out: &mut [u8], at: usize) -> usize
     at + s.len()
 }
 
-// Inner: the caller has seen that there is room. '-' where the number is negative.
+// Inner: a `-` at a place, where the number is negative; asks for room.
 pub fn put_sign(negative: bool, out: &mut [u8], at: usize) -> usize
     requires { ⌜ at + length (signText negative) ≤ length (now out) ⌝ }
     ensures { λ r. ⌜ Wrote (now (out .entry)) (now (out .exit)) at (signText negative) r ⌝ }
@@ -65,7 +65,7 @@ pub fn put_sign(negative: bool, out: &mut [u8], at: usize) -> usize
     }
 }
 
-// Inner: the caller has seen that there is room. The shortest decimal of n.
+// Inner: the shortest decimal of n at a place; asks for room.
 pub fn put_decimal(n: u64, out: &mut [u8], at: usize) -> usize
     requires { ⌜ at + length (decimalText n) ≤ length (now out) ⌝ }
     ensures { λ r. ⌜ Wrote (now (out .entry)) (now (out .exit)) at (decimalText n) r ⌝ }
@@ -73,7 +73,7 @@ pub fn put_decimal(n: u64, out: &mut [u8], at: usize) -> usize
     put_digits(n, decimal_length(n), out, at)
 }
 
-// Inner: the caller has seen that there is room. The decimal of n with leading zeros to at least `width` digits.
+// Inner: the number n with leading zeros to at least `width` digits at a place; asks for room.
 pub fn put_padded(n: u64, width: usize, out: &mut [u8], at: usize) -> usize
     requires { ⌜ at + length (paddedText width n) ≤ length (now out) ⌝ }
     ensures { λ r. ⌜ Wrote (now (out .entry)) (now (out .exit)) at (paddedText width n) r ⌝ }
@@ -81,7 +81,7 @@ pub fn put_padded(n: u64, width: usize, out: &mut [u8], at: usize) -> usize
     put_digits(n, padded_length(n, width), out, at)
 }
 
-// Inner: the caller has seen that there is room. The sign and the shortest decimal of n.
+// Inner: the sign and the shortest decimal of n at a place; asks for room.
 pub fn put_signed(n: i32, out: &mut [u8], at: usize) -> usize
     requires { ⌜ at + length (signedText n) ≤ length (now out) ⌝ }
     ensures { λ r. ⌜ Wrote (now (out .entry)) (now (out .exit)) at (signedText n) r ⌝ }
@@ -90,14 +90,14 @@ pub fn put_signed(n: i32, out: &mut [u8], at: usize) -> usize
     put_decimal(outcome::magnitude(n) as u64, out, first)
 }
 
-// What `Display` of a u32 writes.
+// The shortest decimal of a number, in front of the lent bytes; refused 16.
 pub fn write_u32(n: u32, out: &mut [u8]) -> LengthAnswer
     ensures { λ r. ⌜ Written (now (out .entry)) (now (out .exit)) (decimalText n) (lengthOutcome r) ⌝ }
 {
     write_padded(n, 1, out)
 }
 
-// What `Display` of an i32 writes.
+// The shortest decimal of a signed number, in front of the lent bytes; refused 16.
 pub fn write_i32(n: i32, out: &mut [u8]) -> LengthAnswer
     ensures { λ r. ⌜ Written (now (out .entry)) (now (out .exit)) (signedText n) (lengthOutcome r) ⌝ }
 {
@@ -107,7 +107,7 @@ pub fn write_i32(n: i32, out: &mut [u8]) -> LengthAnswer
     LengthAnswer::Length(put_signed(n, out, 0))
 }
 
-// What `Display` with a width such as `{:02}` writes.
+// A number with leading zeros to at least `width` digits, in front of the lent bytes; refused 16.
 pub fn write_padded(n: u32, width: usize, out: &mut [u8]) -> LengthAnswer
     ensures { λ r. ⌜ Written (now (out .entry)) (now (out .exit)) (paddedText width n) (lengthOutcome r) ⌝ }
 {

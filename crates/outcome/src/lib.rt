@@ -1,5 +1,5 @@
-// The numbers a clerk may see: each refusal of the register has one of them, and finql's name where it has one.
-// Lent room: laws only. What stands in a lent list once others are written into it from its front.
+// The numbers a clerk may see, one for each refusal, with finql's name where it has one; and a
+// number's magnitude. The laws of outcomes and of lent room have no code.
 ghost use Rattle.outcome.specs.Signs.{MagnitudePromise};
 
 pub const INVALID_DATE: u32 = 1;
@@ -40,7 +40,7 @@ pub const MALFORMED_RECORD: u32 = 18;
 
 pub const START_AFTER_END: u32 = 19;
 
-// A number without its sign; the least number has one too: 2,147,483,648.
+// A number without its sign, 2,147,483,648 for the least.
 pub fn magnitude(n: i32) -> u32
     ensures { λ r. ⌜ MagnitudePromise n r ⌝ }
 {

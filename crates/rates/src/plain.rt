@@ -127,7 +127,8 @@ fn added_at(
     AmountAnswer::Amount(sum + crate::factors::simple_factor(rate.rate, yf) * amount)
 }
 
-// A stream as lists: serial days, currencies as numbers, and amounts.
+// What a stream of three plain lists is worth today, summed from 0 in order; refused 15 for the
+// rate, then flow by flow 15, 17 and by the fraction.
 pub fn discount_plain_flows(
     rate: FlatRate,
     days: &[u32],
@@ -137,6 +138,7 @@ pub fn discount_plain_flows(
 ) -> AmountAnswer
     ensures { λ r. ⌜ DiscountPlainPromise rate today (now (days .entry)) (now (currencies .entry)) (now (amounts .entry)) r ⌝ }
 {
+    // The lists are serial days, currencies as numbers, and amounts.
     if !crate::factors::is_discount_rate(rate.rate) {
         return AmountAnswer::Refused(outcome::NUMBER_OUT_OF_LIMITS);
     }

@@ -28,7 +28,8 @@ fn flow_onto(so_far: AmountAnswer, rate: FlatRate, flow: CashFlow, today: Date) 
     }
 }
 
-// A stream of records.
+// What a stream of records is worth today, summed from 0 in order; refused 15 for the rate, then
+// flow by flow 15, 17 and by the fraction.
 pub fn discount_cash_flow_stream(rate: FlatRate, flows: &[CashFlow], today: Date) -> AmountAnswer
     ensures { λ r. ⌜ StreamPromise rate today (now (flows .entry)) r ⌝ }
 {

@@ -32,7 +32,8 @@ fn fraction_to(convention: DayCountConv, today: Date, pay_date: Date) -> YearFra
     day_count_conv::year_fraction(convention, today, pay_date, day_count_conv::no_terms())
 }
 
-// The factor that discounts a payment at `pay_date` to `today`.
+// The factor 1 / (1 + rate x fraction) from a payment's date to today; refused 15, then by the
+// fraction.
 pub fn discount_factor(rate: FlatRate, today: Date, pay_date: Date) -> FactorAnswer
     ensures { λ r. ⌜ FactorPromise rate today «pay_date» r ⌝ }
 {
@@ -78,7 +79,8 @@ fn flow_value(rate: FlatRate, flow: CashFlow, today: Date) -> AmountAnswer
     }
 }
 
-// One flow's value today.
+// What a flow is worth today, factor x amount; refused 15 for the rate, 15, 17, then by the
+// fraction.
 pub fn discount_cash_flow(rate: FlatRate, flow: CashFlow, today: Date) -> AmountAnswer
     ensures { λ r. ⌜ FlowPromise rate today flow r ⌝ }
 {
@@ -88,7 +90,7 @@ pub fn discount_cash_flow(rate: FlatRate, flow: CashFlow, today: Date) -> Amount
     flow_value(rate, flow, today)
 }
 
-// Inner: at a rate already judged. One flow more of a stream whose sum so far is given.
+// Inner: a stream's sum with one flow more, meant for a rate that is checked.
 pub(crate) fn flow_added(rate: FlatRate, flow: CashFlow, today: Date, sum: f64) -> AmountAnswer
     ensures { λ r. ⌜ amountOutcome r ≡ flowAdded rate today sum flow ⌝ }
 {

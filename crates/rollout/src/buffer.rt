@@ -46,7 +46,7 @@ fn collect_within(
     }
 }
 
-// Inner: the whole answer, and the flows are kept where all of them have a place; no record is written.
+// Inner: the count of a rollout or its refusal, and its flows kept, before a record is written.
 pub(crate) fn judge_and_buffer(
     note: Note,
     position: f64,
@@ -58,6 +58,7 @@ pub(crate) fn judge_and_buffer(
     ensures { λ r. ⌜ flowsOutcome r ≡ counted (fitting places (cashFlows note position (now (table .entry)))) ⌝ }
     ensures { λ _. ⌜ KeptAll note position (now (table .entry)) (now (days .exit)) (now (amounts .exit)) ⌝ }
 {
+    // Flows are kept where all of them have a place.
     let position_in = bond::is_position(position);
     let table_taken = business_days::is_table(table);
     match bond::check_note_with(note, position_in, table_taken) {
@@ -80,7 +81,7 @@ fn kept_flow(note: Note, day: u32, amount: f64) -> CashFlow
     }
 }
 
-// Inner: flow k of n: kept, or, where more are due than are kept, by a turn; one that does not pay is proved impossible.
+// Inner: flow k of n, kept or by a step; asks for k below n and flows that are all judged.
 pub(crate) fn flow_at(
     note: Note,
     position: f64,
@@ -94,6 +95,7 @@ pub(crate) fn flow_at(
     requires { ⌜ (FlowDue note position (now table) (now days) (now amounts) n k (before .next)) × (k < n) ⌝ }
     ensures { λ r. ⌜ FlowIs note position (now (table .entry)) n k (before .next) (r .flow) (r .next) ⌝ }
 {
+    // Where more are due than are kept it is by a step; one that does not pay is proved impossible.
     let due = before.next;
     if n <= note_flows::KEPT {
         let flow = kept_flow(note, days[k], amounts[k]);

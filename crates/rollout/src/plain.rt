@@ -56,7 +56,8 @@ fn fill(
     }
 }
 
-// The serial days and the amounts of a note's flows, into lent room.
+// A note's flows as serial days and amounts in two lent lists, and their count; refused by the
+// note's checks, then flow by flow, last 16.
 pub fn rollout_flows(
     note: Note,
     position: f64,

@@ -50,7 +50,8 @@ fn no_amounts() -> [f64; note_flows::KEPT] {
     [0.0f64; note_flows::KEPT]
 }
 
-// finql's rollout of a bond: a note's flows as records, into lent room.
+// A note's flows as records in lent room, and their count, as finql's rollout; refused by the
+// note's checks, then flow by flow, last 16.
 pub fn rollout_cash_flows(
     note: Note,
     position: f64,

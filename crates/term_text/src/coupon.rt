@@ -100,7 +100,7 @@ fn read_day(s: &[u8]) -> CouponAnswer
     }
 }
 
-// dd.mm text.
+// The coupon date of a text dd.mm; refused 6, 7, 8.
 pub fn read_coupon_date(s: &[u8]) -> CouponAnswer
     ensures { λ r. ⌜ ReadCouponPromise (now (s .entry)) r ⌝ }
 {
@@ -132,7 +132,7 @@ fn put_text(c: CouponDate, out: &mut [u8]) -> usize
     put_month(c.month, out, at)
 }
 
-// dd.mm, two digits each.
+// A coupon date as dd.mm, in front of the lent bytes; refused 16.
 pub fn write_coupon_date(c: CouponDate, out: &mut [u8]) -> LengthAnswer
     ensures { λ r. ⌜ Written (now (out .entry)) (now (out .exit)) (couponDateText c) (lengthOutcome r) ⌝ }
 {

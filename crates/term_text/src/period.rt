@@ -34,7 +34,7 @@ fn read_number(s: &[u8], unit: TimePeriodUnit) -> PeriodAnswer
     }
 }
 
-// A signed decimal and the unit's letter.
+// The period of a text, a signed decimal and D, B, W, M or Y; refused 2, 3, 4.
 pub fn read_period(s: &[u8]) -> PeriodAnswer
     ensures { λ r. ⌜ ReadPeriodPromise (now (s .entry)) r ⌝ }
 {
@@ -70,7 +70,7 @@ fn put_text(p: TimePeriod, out: &mut [u8]) -> usize
     at + 1
 }
 
-// The number as `Display` writes it, and the unit's letter.
+// A period's number and its unit's letter, in front of the lent bytes; refused 16.
 pub fn write_period(p: TimePeriod, out: &mut [u8]) -> LengthAnswer
     ensures { λ r. ⌜ Written (now (out .entry)) (now (out .exit)) (periodText p) (lengthOutcome r) ⌝ }
 {

@@ -26,7 +26,7 @@ fn step_once(p: TimePeriod, t: Date) -> DateAnswer
     }
 }
 
-// The date a period on, without a holiday table.
+// The date a period on, without a holiday table; refused 1, 12, then 1 for the result.
 pub fn add_to(p: TimePeriod, t: Date) -> DateAnswer
     ensures { λ r. ⌜ AddPromise p absent t r ⌝ }
 {
@@ -36,7 +36,7 @@ pub fn add_to(p: TimePeriod, t: Date) -> DateAnswer
     step_once(p, t)
 }
 
-// The date a period back, without a holiday table.
+// The date a period back, without a holiday table; refused 1, 4, 12, then 1 for the result.
 pub fn sub_from(p: TimePeriod, t: Date) -> DateAnswer
     ensures { λ r. ⌜ SubPromise p absent t r ⌝ }
 {
@@ -49,7 +49,8 @@ pub fn sub_from(p: TimePeriod, t: Date) -> DateAnswer
     }
 }
 
-// The date a period on; a table that is given is judged, whatever the unit.
+// The date a period on, over a holiday table; refused 1, 13 (whatever the unit), then 1 for the
+// result.
 pub fn add_to_with(p: TimePeriod, t: Date, holidays: &[u32]) -> DateAnswer
     ensures { λ r. ⌜ AddPromise p (table (now (holidays .entry))) t r ⌝ }
 {
@@ -62,7 +63,8 @@ pub fn add_to_with(p: TimePeriod, t: Date, holidays: &[u32]) -> DateAnswer
     crate::steps::step_with(p, t, holidays)
 }
 
-// The date a period back; a table that is given is judged, whatever the unit.
+// The date a period back, over a holiday table; refused 1, 4, 13 (whatever the unit), then 1 for
+// the result.
 pub fn sub_from_with(p: TimePeriod, t: Date, holidays: &[u32]) -> DateAnswer
     ensures { λ r. ⌜ SubPromise p (table (now (holidays .entry))) t r ⌝ }
 {

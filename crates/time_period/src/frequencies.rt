@@ -31,7 +31,7 @@ fn years_frequency(n: u32) -> FrequencyAnswer
     }
 }
 
-// The frequency per year; signs are ignored.
+// How many of a period make a year, 12, 4, 2 or 1, its sign ignored; refused 5.
 pub fn frequency(p: TimePeriod) -> FrequencyAnswer
     ensures { λ r. ⌜ FrequencyPromise p r ⌝ }
 {

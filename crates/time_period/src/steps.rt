@@ -33,7 +33,7 @@ pub enum UnitAnswer {
     Refused(u32),
 }
 
-// The period with its number negated; the least number has no negative.
+// The period with its number negated; refused 4 for -2,147,483,648.
 pub fn inverse(p: TimePeriod) -> PeriodAnswer
     ensures { λ r. ⌜ InversePromise p r ⌝ }
 {
@@ -45,11 +45,12 @@ pub fn inverse(p: TimePeriod) -> PeriodAnswer
     PeriodAnswer::Period(TimePeriod { num: -n, unit })
 }
 
-// Inner: the step from a date that is already judged, so that a walk judges once.
+// Inner: the date a period on, without a holiday table; asks for a date that exists.
 pub fn step(p: TimePeriod, t: Date) -> DateAnswer
     requires { ⌜ isDate t ≡ true ⌝ }
     ensures { λ r. ⌜ dateOutcome r ≡ stepped p absent t ⌝ }
 {
+    // A walk judges its dates once.
     let unit = p.unit;
     match unit {
         TimePeriodUnit::Daily => date_step::days_later(t, p.num as i64),
@@ -82,7 +83,7 @@ fn step_business(n: i32, t: Date, holidays: &[u32]) -> DateAnswer
     }
 }
 
-// Inner: the step from a date and over holidays that are already judged, with no limit to their number.
+// Inner: the date a period on, over holidays; asks for a date that exists and ascending holidays.
 pub(crate) fn step_with(p: TimePeriod, t: Date, holidays: &[u32]) -> DateAnswer
     requires { ⌜ (isDate t ≡ true) × (ascending (now holidays) ≡ true) ⌝ }
     ensures { λ r. ⌜ dateOutcome r ≡ stepped p (table (now (holidays .entry))) t ⌝ }

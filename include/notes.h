@@ -1,5 +1,5 @@
 /*
- * The C face of Trelomavilk, a register of growers' notes. Link libexports.a (rt staticlib exports); it is for x86-64.
+ * The C face of Trelomavilk, a register of growers' notes. Link libc_face.a (rt staticlib c_face); it is for x86-64.
  *
  * Every function returns 0 for an answer, else the number of a refusal:
  *
@@ -15,7 +15,7 @@
  *   15  a number that is not finite or outside its limits
  *   16  fewer places than flows, or fewer bytes than text
  *   17  a currency malformed, or another one
- *   18  a packed record malformed, or a code that there is none of
+ *   18  a packed record malformed, or an unknown code
  *   19  the start after the end
  *
  * What is lent is written only where 0 is returned. On a refusal all of it keeps its contents, and past what is written it keeps them too.

@@ -103,7 +103,7 @@ uint32_t notes_write_coupon_date(uint32_t day, uint32_t month, uint8_t *out, siz
 /* Whether a serial day is a business day: 1 is yes and 0 is no. Refused: 1, 13. */
 uint32_t notes_is_business_day(uint32_t serial, const uint32_t *holidays, size_t holidays_len, uint32_t *yes);
 
-/* The serial day k business days on, and k back; none of them stays on the day. Refused: 1, 13, 1 for the result. */
+/* The serial day k business days on, and k back; with k = 0 it is the day itself. Refused: 1, 13, 1 for the result. */
 uint32_t notes_bdays_later(uint32_t serial, uint32_t k, const uint32_t *holidays, size_t holidays_len, uint32_t *found);
 uint32_t notes_bdays_earlier(uint32_t serial, uint32_t k, const uint32_t *holidays, size_t holidays_len, uint32_t *found);
 

@@ -1,5 +1,5 @@
-//! The original behind C names, for bench/: it is timed beside the register in one process. A date comes as year, month and day and
-//! is made and checked, as every caller of the original has to; one that goes back is handed over as `time` holds it, so that
+//! finql behind C names, for bench/: it is timed beside the register in one process. A date comes as year, month and day and
+//! is made and checked, as every caller of finql has to; one that goes back is handed over as `time` holds it, so that
 //! no conversion is charged. Handles (period, calendar, rate, bond, flows) are made once, outside the timed part. An error is a NaN or i32::MIN.
 use cal_calc::{Calendar, CalendarError, CalendarProvider};
 use finql::bond::Bond;

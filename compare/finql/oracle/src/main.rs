@@ -1,4 +1,4 @@
-//! Line protocol over the original bond modules: one query a line, one answer a line. See compare/README.md.
+//! Line protocol over finql bond modules: one query a line, one answer a line. See compare/README.md.
 use std::io::{BufRead, BufWriter, Read, Write};
 use std::panic::{catch_unwind, AssertUnwindSafe};
 use std::process::{Command, Stdio};
@@ -303,7 +303,7 @@ fn answer(line: &str) -> Answer {
     })
 }
 
-/// May the original roll for ever on this query? Only where a rollout or an accrual has a period of
+/// May finql roll for ever on this query? Only where a rollout or an accrual has a period of
 /// number 0: every other step moves, and leaves the range in the end (icma refuses 0 by itself).
 /// Such a query is asked of a second process, with a time limit.
 fn may_hang(line: &str) -> bool {

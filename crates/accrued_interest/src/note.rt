@@ -24,7 +24,8 @@ pub(crate) enum CouponPeriodAnswer {
     Refused(u32),
 }
 
-// Whether an end is before today and before maturity: the period it closes does not hold today, and is not the last.
+// Whether an end is before today and before maturity: the period it closes does not hold today, and
+// is not the last.
 fn is_past(end: Date, today: Date, maturity: Date) -> bool
     ensures { λ r. ⌜ r ≡ both (isBefore end today) (isBefore end maturity) ⌝ }
 {
@@ -34,7 +35,8 @@ fn is_past(end: Date, today: Date, maturity: Date) -> bool
     calendar::is_before(end, maturity)
 }
 
-// The end a period on. Months go first, and without the call that the other units share: this walk is nearly all of the time.
+// The end a period on. Months go first, and without the call that the other units share: this walk
+// is nearly all of the time.
 fn next_end(p: TimePeriod, t: Date) -> DateAnswer
     requires { ⌜ isDate t ≡ true ⌝ }
     ensures { λ r. ⌜ dateOutcome r ≡ stepped p absent t ⌝ }

@@ -1,4 +1,5 @@
-// The interest accrued in one coupon period of a note: its full amount, times elapsed days over period days.
+// The interest accrued in one coupon period of a note: its full amount, times elapsed days over
+// period days.
 ghost use mathlib.Core.Path.{_≡_};
 ghost use mathlib.Core.Bool.{true};
 ghost use Prim.Native.Nat.{_≤_};

@@ -1,4 +1,5 @@
-// Business days over a lent holiday table: the day and the table are judged, and then the question is put.
+// Business days over a lent holiday table: the day and the table are judged, and then the question
+// is put.
 ghost use Rattle.business_days.specs.days.Answers.{BusinessPromise, NextPromise, PreviousPromise, LaterPromise, EarlierPromise};
 use calendar::Day;
 use calendar::DayAnswer;

@@ -38,7 +38,8 @@ pub const MOST_HOLIDAYS: usize = 4096;
 // Fewer holidays than this are judged by a loop of their own.
 const SHORT: usize = 32;
 
-// All days are looked at, good or not, since the compiler then takes many at once; where they ascend the last is the latest.
+// All days are looked at, good or not, since the compiler then takes many at once; where they
+// ascend the last is the latest.
 fn is_ascending(table: &[u32]) -> bool
     ensures { λ r. ⌜ r ≡ ascending (now (table .entry)) ⌝ }
 {
@@ -59,7 +60,8 @@ fn is_ascending(table: &[u32]) -> bool
     good
 }
 
-// Of a short table, judged by the way. What is wrong and the holidays before a day, which are its place, are counted: the compiler then takes eight days at once, and 32 where it is a yes or no.
+// Of a short table, judged by the way. What is wrong and the holidays before a day, which are its
+// place, are counted: the compiler then takes eight days at once, and 32 where it is a yes or no.
 fn judge_short(table: &[u32], n: u32) -> Place
     requires { ⌜ length (now table) ≤ 32 ⌝ }
     ensures { λ r. ⌜ Placed (now (table .entry)) n r ⌝ }

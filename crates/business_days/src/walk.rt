@@ -1,4 +1,5 @@
-// The business days around a day, over a holiday table that is judged: what finql asks of `cal_calc`. The weekend is Saturday and Sunday.
+// The business days around a day, over a holiday table that is judged: what finql asks of
+// `cal_calc`. The weekend is Saturday and Sunday.
 ghost use mathlib.Core.Path.{_≡_};
 ghost use mathlib.Core.Bool.{true};
 ghost use mathlib.Core.List.{_∷_};
@@ -22,7 +23,8 @@ const SEVENTH: u64 = 613566757;
 // Five sevenths of WHOLE: from there on it is Saturday, the sixth day of a week, or Sunday.
 const FIVE_SEVENTHS: u64 = 3067833785;
 
-// Times a seventh, whole weeks are whole numbers and fall away, but for less than a seventh: no division is left.
+// Times a seventh, whole weeks are whole numbers and fall away, but for less than a seventh: no
+// division is left.
 fn is_weekend(n: u32) -> bool
     requires { ⌜ (1 ≤ n) × (n ≤ 3652059) ⌝ }
     ensures { λ r. ⌜ r ≡ isWeekend n ⌝ }
@@ -67,7 +69,8 @@ pub fn lower_bound_from(table: &[u32], n: u32, hint: usize) -> usize
     i
 }
 
-// Day by day, with the next holiday alongside: over the part of the table that begins with the first holiday after n.
+// Day by day, with the next holiday alongside: over the part of the table that begins with the
+// first holiday after n.
 fn walk_on(part: &[u32], n: u32, k: u32) -> DayAnswer
     requires { ⌜ (IsLowerBound (now part) (n + 1) 0) × (n ≤ 3652059) ⌝ }
     ensures { λ r. ⌜ dayOutcome r ≡ laterFrom (now (part .entry)) k n ⌝ }

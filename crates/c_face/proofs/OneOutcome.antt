@@ -1,5 +1,7 @@
--- No second number and no second contents meet a promise of the face; and a refusal's number is never 0, so that 0 says that there is an answer
--- (`answered` and `kept` of hand_over). Every promise hands one outcome over, so that one theorem serves all that lend alike.
+-- No second number and no second contents meet a promise of the face; and a refusal's number is
+-- never 0, so that 0 says that there is an answer
+-- (`answered` and `kept` of `c_values`). Every promise hands one outcome over, so that one theorem
+-- serves all that lend alike.
 use Prim.Native.Nat.{ℕ}
 use mathlib.Core.Path.{_≡_, ap}
 use mathlib.Core.Bool.{true}
@@ -54,7 +56,8 @@ use Rattle.c_values.proofs.answers.OneOutcome.{one-handed}
 use Rattle.c_values.specs.arguments.Numbers.{date, periodOfNumbers, adjustmentOf, flatRate, noteOf}
 use Rattle.c_face.specs.Rooms.{textIn, flowRooms, listedIn}
 
--- ---- one outcome, by what is lent: `one-handed` and `one-number` of hand_over for one number and for none
+-- ---- one outcome, by what is lent: `one-handed` and `one-number` of `c_values` for one number and
+-- for none
 
 pub one-date : (o : Outcome Date) (r s y m d y₁ m₁ d₁ y₂ m₂ d₂ : ℕ) → HandsOver o r (date y m d) (date y₁ m₁ d₁) → HandsOver o s (date y m d) (date y₂ m₂ d₂) → (r ≡ s) × (y₁ ≡ y₂) × (m₁ ≡ m₂) × (d₁ ≡ d₂)
 one-date o r s y m d y₁ m₁ d₁ y₂ m₂ d₂ p q =

@@ -1,4 +1,5 @@
--- What an entry point promises of lent bytes and lists, and a number handed over beside them, are one thing that is handed over.
+-- What an entry point promises of lent bytes and lists, and a number handed over beside them, are
+-- one thing that is handed over.
 use Prim.Native.Nat.{ℕ}
 use mathlib.Core.Path.{_≡_}
 use mathlib.Core.Bool.{Bool, true, false}

@@ -1,4 +1,5 @@
--- Lent bytes and lists as part of what is handed over: what is written stands in front, and the rest is as it was.
+-- Lent bytes and lists as part of what is handed over: what is written stands in front, and the
+-- rest is as it was.
 use Prim.Native.Nat.{ℕ}
 use mathlib.Core.List.{List}
 use lib.ListN.{length}

@@ -1,4 +1,5 @@
-// How a plain answer is handed over to C: the refusal's number is returned, or 0, and only then is what is lent written.
+// How a plain answer is handed over to C: the refusal's number is returned, or 0, and only then is
+// what is lent written.
 // How days, dates and coupon dates are handed over to C.
 // How the other answers are handed over to C, and all of them under one name for `c_face`.
 ghost use mathlib.Core.Path.{_≡_};

@@ -1,4 +1,5 @@
-// The serial day of a date and the date of a serial day, of what is already judged, counted in years that begin in March.
+// The serial day of a date and the date of a serial day, of what is already judged, counted in
+// years that begin in March.
 ghost use mathlib.Core.Path.{_≡_};
 ghost use mathlib.Core.Bool.{true};
 ghost use Prim.Native.Nat.{suc, _+_, _-_, _*_, _/_, _≤_, _<_};
@@ -12,7 +13,8 @@ struct MarchDay {
     day: u32,
 }
 
-// The days from March of year 0 to a month of a year that begins in March: a leap day ends such a year, so that no month asks for it. Its months are 3 to 14.
+// The days from March of year 0 to a month of a year that begins in March: a leap day ends such a
+// year, so that no month asks for it. Its months are 3 to 14.
 fn from_march(year: u32, month: u32) -> u32
     requires { ⌜ (year ≤ 9999) × (3 ≤ month) × (month ≤ 14) ⌝ }
     ensures { λ r. ⌜ r ≡ 365 * year + year / 4 - year / 100 + year / 400 + (153 * (month - 3) + 2) / 5 ⌝ }
@@ -33,7 +35,8 @@ pub fn day_of_date(t: Date) -> u32
     from_march(year, month) + t.day - 306
 }
 
-// The year of a serial day, and the day in it from 0, of years that begin in March. Counted in quarters of a day; each century but every fourth lacks a leap day,
+// The year of a serial day, and the day in it from 0, of years that begin in March. Counted in
+// quarters of a day; each century but every fourth lacks a leap day,
 // and with these given back every year has 1461 quarters.
 fn march_day(n: u32) -> MarchDay
     requires { ⌜ (1 ≤ n) × (n ≤ 3652059) ⌝ }

@@ -1,11 +1,13 @@
-// The proleptic Gregorian calendar: leap years, the lengths of months and years, and the days before each.
+// The proleptic Gregorian calendar: leap years, the lengths of months and years, and the days
+// before each.
 ghost use mathlib.Core.Path.{_≡_};
 ghost use mathlib.Core.Bool.{false};
 ghost use Prim.Native.Nat.{ℕ, suc, _+_, _<_, _≤_};
 ghost use lib.ListN.{getD};
 ghost use Rattle.calendar.specs.gregorian.Gregorian.{leap, lengthIn, monthLength, yearLength, daysBefore, beforeYear, beforeMonth};
 
-// The serial day of 1 January of each year of the first cycle: FIRST_OF_YEAR[k] is that of year k + 1.
+// The serial day of 1 January of each year of the first cycle: FIRST_OF_YEAR[k] is that of year k +
+// 1.
 const FIRST_OF_YEAR: [u32; 400] = [
     1,
     366,
@@ -444,7 +446,8 @@ pub fn length_of_year(year: u32) -> u32
     if is_leap(year) { 366 } else { 365 }
 }
 
-// The days of a common year before a month of it: from March on the months follow one rule, and a shift divides.
+// The days of a common year before a month of it: from March on the months follow one rule, and a
+// shift divides.
 fn common_before_month(month: u32) -> u32
     requires { ⌜ (1 ≤ month) × (month ≤ 13) ⌝ }
     ensures { λ r. ⌜ r ≡ daysBefore (lengthIn false) month ⌝ }

@@ -1,4 +1,5 @@
-// Amounts of money: a currency of three letters, the limits of an amount, and the answer that it is.
+// Amounts of money: a currency of three letters, the limits of an amount, and the answer that it
+// is.
 ghost use mathlib.Core.Path.{_≡_};
 ghost use Rattle.cash_flow.specs.currency.Amounts.{isCapital, isCurrency, isSameCurrency, upTo};
 

@@ -38,7 +38,8 @@ fn ten_to(digits: i32) -> f64
     }
 }
 
-// Of a number below 2^52. One more bit than the whole part is kept, and it decides: 1 is a half or more.
+// Of a number below 2^52. One more bit than the whole part is kept, and it decides: 1 is a half or
+// more.
 fn nearest_whole(field: u64, mantissa: u64) -> u64
     requires { ⌜ field ≤ 1074 ⌝ }
     requires { ⌜ mantissa < 2 ^ 52 ⌝ }

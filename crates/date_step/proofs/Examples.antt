@@ -1,4 +1,5 @@
--- Fifteen months back, and the ends of the signed numbers, as theorems about the definitions; the desk card's steps stand in `desk_card`.
+-- Fifteen months back, and the ends of the signed numbers, as theorems about the definitions; the
+-- desk card's steps stand in `desk_card`.
 use Prim.Native.Nat.{ℕ}
 use mathlib.Core.Path.{_≡_, refl, ap, _∙_}
 use lib.IntN.{ℤ, pos, negsuc, _+ℤ_}

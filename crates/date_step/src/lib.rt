@@ -20,7 +20,8 @@ enum MovedAnswer {
     Refused(u32),
 }
 
-// Where a signed move leads from a number, up to the last: the one place where signs are met. No move is longer than seven times an i32, so that the sum fits.
+// Where a signed move leads from a number, up to the last: the one place where signs are met. No
+// move is longer than seven times an i32, so that the sum fits.
 fn moved(at: u32, n: i64, last: u32) -> MovedAnswer
     requires { ⌜ (at ≤ 3652059) × (last ≤ 3652059) × (mag n < 17179869184) ⌝ }
     ensures { λ r. ⌜ movedOutcome r ≡ fromZeroTo last (pos at +ℤ n) ⌝ }

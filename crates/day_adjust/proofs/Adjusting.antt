@@ -1,4 +1,5 @@
--- The laws of adjustment: none leaves every date, and what the other rules give is a business day on its side.
+-- The laws of adjustment: none leaves every date, and what the other rules give is a business day
+-- on its side.
 use Prim.Native.Nat.{ℕ, _<_}
 use mathlib.Core.Path.{_≡_, refl, sym, _∙_, ap, subst}
 use mathlib.Core.Bool.{Bool, true, false}

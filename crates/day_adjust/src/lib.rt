@@ -33,7 +33,8 @@ fn reaches(year: u32, month: u32, day: u32) -> bool
     day <= calendar::length_of_month(year, month)
 }
 
-// The date of a day near one whose date is known: within its month only the day's number differs, which takes no division.
+// The date of a day near one whose date is known: within its month only the day's number differs,
+// which takes no division.
 fn date_near(t: Date, n: u32, at: u32) -> Date
     requires { ⌜ (isDate t ≡ true) × (n ≡ dayNumber t) × (1 ≤ at) × (at ≤ 3652059) ⌝ }
     ensures { λ r. ⌜ r ≡ theDate at ⌝ }
@@ -80,7 +81,8 @@ fn prev_date(t: Date, n: u32, table: &[u32], i: usize) -> DateAnswer
     }
 }
 
-// Following and modified look ahead first. Modified turns back where the month differs, and only compares its number, as finql does.
+// Following and modified look ahead first. Modified turns back where the month differs, and only
+// compares its number, as finql does.
 fn ahead_date(across: bool, t: Date, n: u32, table: &[u32], i: usize) -> DateAnswer
     requires { ⌜ (isDate t ≡ true) × (n ≡ dayNumber t) × (ascending (now table) ≡ true) × (IsLowerBound (now table) n i) ⌝ }
     ensures { λ r. ⌜ dateOutcome r ≡ andThen (nextDate (now (table .entry)) n) (λ u. pick (across || eqb (u .month) (t .month)) (given u) (prevDate (now (table .entry)) n)) ⌝ }

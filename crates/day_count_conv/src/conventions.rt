@@ -1,4 +1,5 @@
-// Day count conventions: the six rules of a year fraction; here ICMA, and the refusal that 30/360 and 30E/360 share.
+// Day count conventions: the six rules of a year fraction; here ICMA, and the refusal that 30/360
+// and 30E/360 share.
 ghost use mathlib.Core.Path.{_≡_};
 ghost use mathlib.Core.Bool.{true, not};
 ghost use Rattle.outcome.specs.Outcome.{given, unless};

@@ -16,7 +16,7 @@ use Rattle.rounding.proofs.Integers.{plus, minus, Diff, of-int, diff-add, diff-
 use Rattle.rounding.proofs.Near.{Near, near-int, near-add, near-sub, near-same, near-signed, near-weaken}
 use Rattle.rounding.proofs.Quotient.{near-div}
 use Rattle.rounding.proofs.CloseLaws.{near-close}
-use Rattle.rounding.proofs.Gap.{abs-gap}
+use Rattle.rounding.proofs.Difference.{abs-gap}
 use Rattle.day_fraction.specs.Exact.{Exact, CloseTo, difference}
 use Rattle.day_fraction.specs.Fractions.{exactFraction, bits, quotient, thirties, thirtiesBits, leapYears, leapBits, sinceJanuary, days, years, months, cut, endDay}
 use Rattle.day_fraction.specs.declared.SimpleRule.{SimpleRule}

@@ -1,4 +1,5 @@
--- The desk card's fractions, and cases that a trainee gets wrong, as theorems about the definitions; each f64 by its pattern.
+-- The desk card's fractions, and cases that a trainee gets wrong, as theorems about the
+-- definitions; each f64 by its pattern.
 use Prim.Native.Nat.{ℕ, _+_, _-_, _*_, _^_}
 use native.Mathlib.Nat.{not-le-of-lt}
 use mathlib.Core.Path.{_≡_, refl, ap₂, subst}

@@ -1,4 +1,5 @@
--- Refusal 9: 30/360 and 30E/360 are 0 on two different dates exactly from the 30th to the 31st of one month, and exactly there the `f64` is.
+-- Refusal 9: 30/360 and 30E/360 are 0 on two different dates exactly from the 30th to the 31st of
+-- one month, and exactly there the `f64` is.
 use mathlib.Core.Path.{_≡_, refl, sym, _∙_, ap}
 use Prim.Native.Nat.{ℕ, _^_, _≤_, _<_}
 use mathlib.Core.Bool.{Bool, true, false, not, true≢false}

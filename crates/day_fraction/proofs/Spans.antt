@@ -1,4 +1,5 @@
--- Two dates of which the first is not after the second: how their years, months and days stand to each other.
+-- Two dates of which the first is not after the second: how their years, months and days stand to
+-- each other.
 use mathlib.Core.Path.{_≡_, ap}
 use Prim.Native.Nat.{_+_, _-_, _≤_, _<_}
 use native.Mathlib.Omega.{arith}

@@ -1,4 +1,5 @@
--- Every exact value is not negative and at most 10150 where the start is not after the end, and 0 where the two are one date.
+-- Every exact value is not negative and at most 10150 where the start is not after the end, and 0
+-- where the two are one date.
 use mathlib.Core.Path.{_≡_, refl, sym, _∙_, ap, subst}
 use Prim.Native.Nat.{ℕ, _+_, _*_, _^_, _≤_, _<_}
 use native.Mathlib.Nat.{le-of-lt, mul-le-mul-right}

@@ -1,4 +1,5 @@
--- The `f64` operations as the code writes them, with each literal by its pattern, are those of the definitions.
+-- The `f64` operations as the code writes them, with each literal by its pattern, are those of the
+-- definitions.
 use Prim.Native.Nat.{ℕ}
 use mathlib.Core.Path.{_≡_, refl, ap₂}
 use lib.IntN.{ℤ, pos}

@@ -1,4 +1,5 @@
--- Year fractions, exactly, by the five rules that need two dates alone; and the f64 of each, by finql's operations in its order.
+-- Year fractions, exactly, by the five rules that need two dates alone; and the f64 of each, by
+-- finql's operations in its order.
 use Prim.Native.Nat.{ℕ, _-_, _*_, _≤_}
 use mathlib.Core.Path.{_≡_}
 use mathlib.Core.Bool.{Bool, true, false, not, _||_}
@@ -41,7 +42,8 @@ cut d = pick (eqb d 31) 30 d
 abbrev pub endDay : ℕ → ℕ → ℕ
 endDay s e = pick (eqb s 30 || eqb s 31) (cut e) e
 
--- D, the difference of the adjusted days. 30/360: start 31 becomes 30, and the end as above; 30E/360: both 31s become 30
+-- D, the difference of the adjusted days. 30/360: start 31 becomes 30, and the end as above;
+-- 30E/360: both 31s become 30
 abbrev pub days30 : Date → Date → ℤ
 days30 s e = difference (endDay (s .day) (e .day)) (cut (s .day))
 

@@ -43,7 +43,8 @@ pub fn calc_act_360(start: Date, end: Date) -> f64
     days_from(start, end) as f64 / 360.0
 }
 
-// How much of its year is gone at a date: the days since 1 January, of which no serial day is taken, over the year's length.
+// How much of its year is gone at a date: the days since 1 January, of which no serial day is
+// taken, over the year's length.
 fn part_of_year_elapsed(t: Date) -> f64
     requires { ⌜ isDate t ≡ true ⌝ }
     ensures { λ r. ⌜ r ≡ quotient (pos (sinceJanuary t)) (yearLength (t .year)) ⌝ }

@@ -79,7 +79,8 @@ pub(crate) fn small_length(negative: bool, tens: u64) -> usize
     columns(negative, number_text::decimal_length(tens / 10000) + 5)
 }
 
-// So many digits are enough for a number below 2^63 times so many factors two: three factors two are less than one of ten.
+// So many digits are enough for a number below 2^63 times so many factors two: three factors two
+// are less than one of ten.
 fn digits_enough(twos: usize) -> usize
     requires { ⌜ twos ≤ 975 ⌝ }
     ensures { λ r. ⌜ r ≡ twos / 3 + 22 ⌝ }
@@ -87,7 +88,8 @@ fn digits_enough(twos: usize) -> usize
     twos / 3 + 22
 }
 
-// Where the whole part begins among the digits d: past its zeros, but before its last digit at the latest.
+// Where the whole part begins among the digits d: past its zeros, but before its last digit at the
+// latest.
 fn whole_start(d: &[u8]) -> usize
     requires { ⌜ 5 ≤ length (now d) ⌝ }
     ensures { λ r. ⌜ r ≡ wholeStart (now (d .entry)) ⌝ }

@@ -1,4 +1,5 @@
--- The desk card holds: steps, refusals, exact values and the amount by computing; how far off each fraction is by the bound of all fractions.
+-- The desk card holds: steps, refusals, exact values and the amount by computing; how far off each
+-- fraction is by the bound of all fractions.
 use mathlib.Core.Path.{_≡_, refl, subst}
 use lib.Dec.{lit≤}
 use lib.Ieee.{add, mul, div, ofInt, ofBits}

@@ -1,4 +1,5 @@
--- Dates on the desk card, a to m (there is no e), together as one table. Each line is over the definition that its entry point's promise cites.
+-- Dates on the desk card, a to m (there is no e), together as one table. Each line is over the
+-- definition that its entry point's promise cites.
 use Prim.Native.Nat.{ℕ, _+_, _-_, _*_, _≤_}
 use mathlib.Core.Path.{_≡_}
 use mathlib.Core.List.{[]}
@@ -33,7 +34,8 @@ inYears n = record { num = n; unit = unit.Annual }
 abbrev pub over : ℕ → ℕ → Exact
 over n d = record { num = pos n; den = d }
 
--- a fraction's line: this exactly, and the f64 within 1 / 2^38 of it; or this refused, of the f64 too
+-- a fraction's line: this exactly, and the f64 within 1 / 2^38 of it; or this refused, of the f64
+-- too
 pub record Fraction (rule : DayCountConv) (start end : Date) (x : NoteTerms) (answer : Outcome Exact) : Type 0 where
   pub exact : yearFraction fractionsExactly rule start end x ≡ answer
   pub close : FractionWithin (yearFraction fractionsInF64 rule start end x) answer

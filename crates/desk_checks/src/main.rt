@@ -1,4 +1,5 @@
-// The clerk's checks: the desk card, the limits and the slips, each asked of its entry point and compared with what the paper says.
+// The clerk's checks: the desk card, the limits and the slips, each asked of its entry point and
+// compared with what the paper says.
 ghost use mathlib.Core.Path.{_≡_};
 ghost use lib.ListN.{length};
 use bond::Note;
@@ -169,7 +170,8 @@ fn told_date(c: Tally, got: DateAnswer, want: u32) -> Tally {
     }
 }
 
-// Wanted is an f64 and 0, or 0 and a refusal's number. No zero and no NaN is wanted, so that equal numbers have equal bits.
+// Wanted is an f64 and 0, or 0 and a refusal's number. No zero and no NaN is wanted, so that equal
+// numbers have equal bits.
 fn told_amount(c: Tally, got: YearFraction, want: f64, number: u32) -> Tally {
     end_question();
     match got {
@@ -489,7 +491,8 @@ fn card_note(c: Tally) -> Tally {
     ask_accrued(c, b'm', rated(4.0), 20210415, 9.94475138121547, 0)
 }
 
-// The calendar's last day and the next; 15 months back, both ways; and the least number of a period, which has no negative.
+// The calendar's last day and the next; 15 months back, both ways; and the least number of a
+// period, which has no negative.
 fn limit_days(c: Tally) -> Tally {
     let c = ask_day(c, 3652059, 99991231);
     let c = ask_day(c, 3652060, 1);
@@ -570,7 +573,8 @@ fn still(unit: u8) -> Note {
     note_of(4.0, 20210115, 20220115, 15, 0, unit)
 }
 
-// A zero period, in a rollout, in accrued interest and in one ICMA fraction; the note's own period has three flows.
+// A zero period, in a rollout, in accrued interest and in one ICMA fraction; the note's own period
+// has three flows.
 fn slip_zero_periods(c: Tally) -> Tally {
     let c = ask_flows(c, rated(4.0), 3, 0);
     let c = ask_flows(c, still(b'D'), 0, 14);

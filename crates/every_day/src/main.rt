@@ -1,4 +1,5 @@
-// Every day of the calendar, held to a count kept day by day: its date, that date's serial day, the table's where a year begins, and its weekday.
+// Every day of the calendar, held to a count kept day by day: its date, that date's serial day, the
+// table's where a year begins, and its weekday.
 use calendar::Date;
 use calendar::DateAnswer;
 use calendar::Day;

@@ -16,7 +16,8 @@ fn shortest_of(a: usize, b: usize, c: usize) -> usize
     if a < m { a } else { m }
 }
 
-// The first pass over plain lists: it judges every day and counts the later ones, and writes nothing.
+// The first pass over plain lists: it judges every day and counts the later ones, and writes
+// nothing.
 fn answer_plain(day: Day, days: &[u32], places: usize) -> FlowsAnswer
     ensures { λ r. ⌜ flowsOutcome r ≡ counted (daysWritten day (now (days .entry)) places) ⌝ }
 {

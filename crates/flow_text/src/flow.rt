@@ -9,8 +9,6 @@ ghost use Rattle.number_text.specs.write.Writing.{Wrote};
 ghost use Rattle.calendar.specs.dates.Dates.{isDate};
 ghost use Rattle.flow_text.specs.amount.AmountTexts.{amountText};
 ghost use Rattle.flow_text.specs.flow.Texts.{flowText, FlowTakes, FlowWrites};
-pub use crate::amount::amount_length;
-pub use crate::amount::write_amount;
 use cash_flow::CashFlow;
 use cash_flow::Currency;
 use number_text::LengthAnswer;

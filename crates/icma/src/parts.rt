@@ -1,4 +1,5 @@
-// Act/Act ICMA: the whole periods and the broken parts between two dates, by walks from the roll date.
+// Act/Act ICMA: the whole periods and the broken parts between two dates, by walks from the roll
+// date.
 ghost use mathlib.Core.Path.{_≡_};
 ghost use mathlib.Core.Bool.{true};
 ghost use Prim.Native.Nat.{_-_, _≤_};
@@ -13,7 +14,8 @@ use calendar::Date;
 use calendar::DateAnswer;
 use time_period::TimePeriod;
 
-// A period that the start or the end cuts: some days over the period's length. The days may be negative.
+// A period that the start or the end cuts: some days over the period's length. The days may be
+// negative.
 pub enum Broken {
     Nothing,
     Part(i32, u32),
@@ -24,7 +26,8 @@ pub(crate) enum BrokenAnswer {
     Refused(u32),
 }
 
-// Shorter than a period: the days, and the period's length. Or the broken parts at both ends, and the whole periods.
+// Shorter than a period: the days, and the period's length. Or the broken parts at both ends, and
+// the whole periods.
 pub enum Parts {
     Short(u32, u32),
     Long(Broken, Broken, u32),

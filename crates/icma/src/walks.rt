@@ -1,4 +1,5 @@
-// The walks of Act/Act ICMA: by a period, on or back to a limit, and from the roll date to where the parts are counted from.
+// The walks of Act/Act ICMA: by a period, on or back to a limit, and from the roll date to where
+// the parts are counted from.
 ghost use mathlib.Core.Path.{_≡_};
 ghost use mathlib.Core.Bool.{true};
 ghost use Prim.Native.Nat.{_+_, _<_, _≤_};
@@ -95,7 +96,8 @@ fn uncut_date(index: u32, day: u32) -> Date
     Date { year, month, day }
 }
 
-// Many steps at once, up to the last that leads to an earlier month than the limit's: each of their dates counts.
+// Many steps at once, up to the last that leads to an earlier month than the limit's: each of their
+// dates counts.
 fn skip_on(p: TimePeriod, from: Date, limit: Date) -> Walked
     requires { ⌜ (isDate from ≡ true) × (isDate limit ≡ true) × (ltZ (pos 0) (p .num) ≡ true) ⌝ }
     ensures { λ r. ⌜ r ≡ leapOn p limit from ⌝ }

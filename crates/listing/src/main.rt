@@ -1,4 +1,5 @@
-// The program: reads a packed note and its table from standard input, and writes its flows or `refused N`.
+// The program: reads a packed note and its table from standard input, and writes its flows or
+// `refused N`.
 use libc::STDIN_FILENO;
 use libc::STDOUT_FILENO;
 use number_text::LengthAnswer;

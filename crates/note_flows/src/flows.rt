@@ -1,4 +1,5 @@
-// A note's flows one at a time, each on its payment date, and the pass that counts and keeps them all.
+// A note's flows one at a time, each on its payment date, and the pass that counts and keeps them
+// all.
 ghost use mathlib.Core.Path.{_≡_};
 ghost use mathlib.Core.Bool.{true};
 ghost use lib.ListN.{set};
@@ -17,7 +18,8 @@ use calendar::DateAnswer;
 use cash_flow::CashFlow;
 use cash_flow::FlowsAnswer;
 
-// How many flows a first pass keeps for a second: 21 years of months. There is no heap, and more would cost a short note too much to clear.
+// How many flows a first pass keeps for a second: 21 years of months. There is no heap, and more
+// would cost a short note too much to clear.
 pub const KEPT: usize = 256;
 
 // A hint past every table: the first payment's place is searched for.
@@ -75,7 +77,8 @@ fn pay(note: Note, table: &[u32], hint: usize, t: Date, amount: f64, next: Due) 
     }
 }
 
-// One step of a note, a position and a table already judged, from a place of the table that may be near its date's.
+// One step of a note, a position and a table already judged, from a place of the table that may be
+// near its date's.
 fn next_flow_near(note: Note, position: f64, table: &[u32], hint: usize, due: Due) -> HintedStep
     requires { ⌜ (JudgedNote note position (now table)) × (Dated due) ⌝ }
     ensures { λ r. ⌜ Turned note position (now (table .entry)) due (r .step) ⌝ }

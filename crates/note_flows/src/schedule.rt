@@ -1,4 +1,5 @@
-// What a note pays next: the coupon or nominal that comes, by what is due, and the amount that is owed for it.
+// What a note pays next: the coupon or nominal that comes, by what is due, and the amount that is
+// owed for it.
 ghost use mathlib.Core.Path.{_≡_};
 ghost use mathlib.Core.Bool.{true};
 ghost use Rattle.calendar.specs.dates.Dates.{isDate};
@@ -19,7 +20,8 @@ pub enum Due {
     Nothing,
 }
 
-// What comes next: the first coupon from its start to its end, a later one, the nominal, a refusal, or nothing more.
+// What comes next: the first coupon from its start to its end, a later one, the nominal, a refusal,
+// or nothing more.
 pub(crate) enum Event {
     First(Date, Date),
     Later(Date, Date),
@@ -28,7 +30,8 @@ pub(crate) enum Event {
     End,
 }
 
-// What is owed: an amount on a date that is not adjusted yet, and what is due after it; a refusal, or nothing more.
+// What is owed: an amount on a date that is not adjusted yet, and what is due after it; a refusal,
+// or nothing more.
 pub(crate) enum Payment {
     Pay(Date, f64, Due),
     Stop(u32),

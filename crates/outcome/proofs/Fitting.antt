@@ -1,4 +1,5 @@
--- A count and the places for it: what fits is all there is, and what does not is 16. Over any kind of element.
+-- A count and the places for it: what fits is all there is, and what does not is 16. Over any kind
+-- of element.
 use Prim.Native.Nat.{ℕ, _≤_, _<_}
 use mathlib.Core.Path.{_≡_, refl, sym, subst}
 use mathlib.Core.List.{List}

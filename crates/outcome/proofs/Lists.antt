@@ -1,4 +1,5 @@
--- Parts of a list, as a slice gives them, what holds of every element, those that a test takes, and a list by its rule; over any kind of element.
+-- Parts of a list, as a slice gives them, what holds of every element, those that a test takes, and
+-- a list by its rule; over any kind of element.
 use Prim.Native.Nat.{ℕ, zero, suc, _+_, _-_, _≤_, _<_}
 use mathlib.Core.Path.{_≡_, refl, sym, ap, _∙_}
 use mathlib.Core.Bool.{Bool, true, false}

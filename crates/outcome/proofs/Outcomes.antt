@@ -1,4 +1,5 @@
--- The laws of an outcome: the number and the value fix it, and its number is 0 exactly where a value is given.
+-- The laws of an outcome: the number and the value fix it, and its number is 0 exactly where a
+-- value is given.
 use Prim.Native.Nat.{ℕ, _<_}
 use mathlib.Core.Path.{_≡_, refl, sym, _∙_, ap}
 use mathlib.Core.Bool.{Bool, true, false}
@@ -18,7 +19,8 @@ given-not-refused e = let z : _≡_ {A = ℕ} 0 1 = cc in omega arith
 pub one-value : {A : Type 0} {x : A} (r s : A) → r ≡ x → s ≡ x → r ≡ s
 one-value r s p q = p ∙ sym q
 
--- the answer in code that an outcome is: its value's, or its number's; two answers with one outcome are one
+-- the answer in code that an outcome is: its value's, or its number's; two answers with one outcome
+-- are one
 abbrev pub answerOf : {A R : Type 0} → (A → R) → (ℕ → R) → Outcome A → R
 answerOf valued numbered (given a) = valued a
 answerOf valued numbered (refused n) = numbered n

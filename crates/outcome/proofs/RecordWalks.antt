@@ -21,7 +21,8 @@ rest-of (exit n) = skip
 rest-of return = skip
 rest-of (call f xs p) = skip
 
--- a result of a declared type: its machine value is the type's, and that value holds what the type says
+-- a result of a declared type: its machine value is the type's, and that value holds what the type
+-- says
 module _ (T : Declared) (L : Laws T) where
   pub told : (r : T .D) (u : Val) → Is (row T) r (u ∷ []) → u ≡ val T L r
   told r u is = ap only (tells T L r (u ∷ []) is)

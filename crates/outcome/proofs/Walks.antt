@@ -1,4 +1,5 @@
--- Laws of a walk, whatever it walks over: one turn, how many turns are enough, and what holds where it ends.
+-- Laws of a walk, whatever it walks over: one turn, how many turns are enough, and what holds where
+-- it ends.
 use Prim.Native.Nat.{ℕ, zero, suc, _<_}
 use mathlib.Core.Path.{_≡_, refl, sym, ap, subst, _∙_}
 use mathlib.Core.Bool.{Bool, true, false}

@@ -1,4 +1,5 @@
--- Lent room, of whatever its places hold: what is written stands in front, and room past it keeps its contents.
+-- Lent room, of whatever its places hold: what is written stands in front, and room past it keeps
+-- its contents.
 use Prim.Native.Nat.{ℕ}
 use mathlib.Core.List.{List, _++_, map}
 use lib.Dec.{leb}

@@ -1,4 +1,5 @@
-// What discounting asks of numbers alone: whether one is finite, whether it is a rate, and the factor.
+// What discounting asks of numbers alone: whether one is finite, whether it is a rate, and the
+// factor.
 ghost use mathlib.Core.Path.{_≡_};
 ghost use lib.Ieee.Scale.{finite};
 ghost use Rattle.rates.specs.factors.Factors.{isDiscountRate, factorOf};

@@ -91,7 +91,8 @@ fn is_counted(from: u32, own: Currency, day: u32, currency: Currency, amount: f6
     crate::factors::is_finite(amount)
 }
 
-// The flow at place i, added to the sum so far. A date is taken only where days are not enough: it costs more than all the rest.
+// The flow at place i, added to the sum so far. A date is taken only where days are not enough: it
+// costs more than all the rest.
 fn added_at(
     rate: FlatRate,
     days: &[u32],

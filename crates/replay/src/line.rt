@@ -1,4 +1,6 @@
-// The line of an answer. A row is the words of an answer, or of a part of it, by value. What puts bytes at a place of the output answers the place behind them, or the same place where there is no room.
+// The line of an answer. A row is the words of an answer, or of a part of it, by value. What puts
+// bytes at a place of the output answers the place behind them, or the same place where there is no
+// room.
 ghost use Prim.Native.Nat.{_<_};
 use crate::lent;
 use calendar::Date;

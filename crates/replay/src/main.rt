@@ -14,7 +14,8 @@ use libc::STDIN_FILENO;
 use libc::STDOUT_FILENO;
 use line::Row;
 
-// A letter for each verb, from 0 on: which function answers it. Large letters are for what leaves something in lent memory.
+// A letter for each verb, from 0 on: which function answers it. Large letters are for what leaves
+// something in lent memory.
 fn kind(verb: u8) -> u8 {
     fields::byte(
         b" dddddddddddddddbbbbbbbtWttttbbttWtaaaaWWWWtaaaFnnRnPQLttsGStccccWWWWctchhhohhhnxxxt",
@@ -85,7 +86,8 @@ fn answer_all(s: &[u8], out: &mut [u8]) {
     write_out(out, at);
 }
 
-// Some thousand questions; what is longer is not read. Both rooms are made by calls, so that the proof of `main` does not write their bytes out.
+// Some thousand questions; what is longer is not read. Both rooms are made by calls, so that the
+// proof of `main` does not write their bytes out.
 fn questions_room() -> [u8; 400000] {
     [0; 400000]
 }

@@ -1,4 +1,5 @@
-// Verbs 57 to 59: slices of records. The borrow checker covers no function that lends one, so each call stands in a function of its own, proved by hand.
+// Verbs 57 to 59: slices of records. The borrow checker covers no function that lends one, so each
+// call stands in a function of its own, proved by hand.
 ghost use Prim.Native.Nat.{_≤_};
 use crate::amounts;
 use crate::fields;

@@ -1,4 +1,5 @@
-// Verbs 23 to 28, 31 to 34, 39 to 43, 55, 56, 60, 65 to 68, 70 and 83: what is read from text or written as text.
+// Verbs 23 to 28, 31 to 34, 39 to 43, 55, 56, 60, 65 to 68, 70 and 83: what is read from text or
+// written as text.
 use crate::fields;
 use crate::lent;
 use crate::line;

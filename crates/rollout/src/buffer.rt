@@ -1,4 +1,5 @@
-// A note's flows for a rollout into records: judged, counted and kept first, and then taken one at a time.
+// A note's flows for a rollout into records: judged, counted and kept first, and then taken one at
+// a time.
 ghost use mathlib.Core.Path.{_≡_};
 ghost use Prim.Native.Nat.{_≤_, _<_};
 ghost use lib.ListN.{length};
@@ -21,7 +22,8 @@ pub(crate) struct Paid {
     pub next: Due,
 }
 
-// How many flows there are, or the first refusal; last 16; and they are kept. Of a note, a position and a table already judged.
+// How many flows there are, or the first refusal; last 16; and they are kept. Of a note, a position
+// and a table already judged.
 fn collect_within(
     note: Note,
     position: f64,

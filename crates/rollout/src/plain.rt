@@ -1,4 +1,5 @@
-// Rollout of a note into its cash flows: judged and counted first, and written only where all of them are given and fit.
+// Rollout of a note into its cash flows: judged and counted first, and written only where all of
+// them are given and fit.
 ghost use mathlib.Core.Path.{_≡_};
 ghost use Prim.Native.Nat.{_≤_};
 ghost use mathlib.Core.List.{_++_};

@@ -1,4 +1,5 @@
-// Rollout of a note into records: judged and counted first, and written only where all of them are given and fit.
+// Rollout of a note into records: judged and counted first, and written only where all of them are
+// given and fit.
 ghost use mathlib.Core.Path.{_≡_};
 ghost use Rattle.outcome.specs.Outcome.{value};
 ghost use Rattle.cash_flow.specs.flow.Flows.{flowsOutcome};

@@ -1,4 +1,5 @@
-// A period added to a date and subtracted from it, with a holiday table and without one, as finql's time_period.rs.
+// A period added to a date and subtracted from it, with a holiday table and without one, as finql's
+// time_period.rs.
 ghost use mathlib.Core.Path.{_≡_};
 ghost use mathlib.Core.Bool.{true};
 ghost use Rattle.calendar.specs.dates.Dates.{isDate};
@@ -11,7 +12,8 @@ use crate::steps::TimePeriodUnit;
 use calendar::Date;
 use calendar::DateAnswer;
 
-// As `time_period::step`, for `add_to` alone: what has one caller is compiled into it, and then no date goes through memory.
+// As `time_period::step`, for `add_to` alone: what has one caller is compiled into it, and then no
+// date goes through memory.
 fn step_once(p: TimePeriod, t: Date) -> DateAnswer
     requires { ⌜ isDate t ≡ true ⌝ }
     ensures { λ r. ⌜ dateOutcome r ≡ stepped p absent t ⌝ }

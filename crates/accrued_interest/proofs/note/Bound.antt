@@ -1,4 +1,5 @@
--- Accrued interest on a denomination up to 1,000,000 is within 1 / 100,000 of the exact amount; and what is refused is refused alike.
+-- Accrued interest on a denomination up to 1,000,000 is within 1 / 100,000 of the exact amount; and
+-- what is refused is refused alike.
 use Prim.Native.Nat.{ℕ, _+_, _*_, _≤_, zero-le}
 use mathlib.Core.Path.{_≡_, refl, sym, _∙_, subst}
 use mathlib.Core.Bool.{Bool, true, false}

@@ -1,4 +1,5 @@
--- Case m of the desk card, and the order of the refusals and of the zeros, as theorems about the definitions.
+-- Case m of the desk card, and the order of the refusals and of the zeros, as theorems about the
+-- definitions.
 use Prim.Native.Nat.{_*_}
 use mathlib.Core.Path.{_≡_, refl}
 use mathlib.Core.Bool.{false}
@@ -49,7 +50,8 @@ noteOf rate issue maturity coupon n c =
 abbrev four : Float
 four = fin false 1 (pos 2)
 
--- 6M under 30E/360 until 2030, 3M and 2M under ICMA, and one whose first coupon ends past the calendar
+-- 6M under 30E/360 until 2030, 3M and 2M under ICMA, and one whose first coupon ends past the
+-- calendar
 abbrev long : Note
 long = noteOf four (on 2021 1 15) (on 2030 1 15) (dayMonth 15 7) (pos 6) conv.D30E360
 
@@ -106,7 +108,8 @@ zeros =
       note-first = refl;
     }
 
--- an end belongs to the period it closes; and the first period rolls from the issue date: 1 + 15/91 quarters, not 1 + 15/92
+-- an end belongs to the period it closes; and the first period rolls from the issue date: 1 + 15/91
+-- quarters, not 1 + 15/92
 pub record Periods : Type 0 where
   pub on-the-end : accrued amountsExactly long (on 2021 7 15) ≡ given (over (pos 130320000) 6516000)
   pub next-day : accrued amountsExactly long (on 2021 7 16) ≡ given (over (pos 720000) 6624000)

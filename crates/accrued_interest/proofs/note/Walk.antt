@@ -1,4 +1,5 @@
--- The walk over a note's periods ends: each end lies later, so the steps allowed are never used up; and where it stops, a period has begun.
+-- The walk over a note's periods ends: each end lies later, so the steps allowed are never used up;
+-- and where it stops, a period has begun.
 use Prim.Native.Nat.{ℕ, _-_, _<_}
 use mathlib.Core.Path.{_≡_, subst}
 use mathlib.Core.Bool.{true, false}

@@ -1,4 +1,5 @@
--- Accrued interest on one note: its refusals in their order, its f64, and its exact value. What accrues in one period is that of `accrued_interest`.
+-- Accrued interest on one note: its refusals in their order, its f64, and its exact value. What
+-- accrues in one period is that of `accrued_interest`.
 use Prim.Native.Nat.{_≤_}
 use mathlib.Core.Path.{_≡_}
 use mathlib.Core.Bool.{Bool, true}
@@ -29,11 +30,13 @@ couponPeriodOutcome (period-answer.Refused n) = refused n
 abbrev pub running : Date → Date → CouponPeriod
 running start end = record { start = start; end = end }
 
--- each later one from the end of the one before to the next end; a date outside the range stops it with 1
+-- each later one from the end of the one before to the next end; a date outside the range stops it
+-- with 1
 unfoldable pub nextPeriod : Note → CouponPeriod → Outcome CouponPeriod
 nextPeriod n p = andThen (stepped (n .period) absent (p .end)) (λ end. given (running (p .end) end))
 
--- an end belongs to the period it closes; the walk stops at the first end not before today or not before maturity
+-- an end belongs to the period it closes; the walk stops at the first end not before today or not
+-- before maturity
 unfoldable pub goesOn : Note → Date → CouponPeriod → Bool
 goesOn n today p = both (isBefore (p .end) today) (isBefore (p .end) (n .maturity))
 
@@ -50,7 +53,8 @@ accruedOn v n today =
     (pick (isBefore today (n .«issue_date»)) (given (v .nothing))
     (andThen (firstCouponEnd n) (λ end. accruedFrom v n today (running (n .«issue_date») end))))
 
--- order: the note's checks (no position and no table are taken), 1 for today, the 0 before issue, the walk's 1, then, where an amount is due, its fraction's refusals
+-- order: the note's checks (no position and no table are taken), 1 for today, the 0 before issue,
+-- the walk's 1, then, where an amount is due, its fraction's refusals
 unfoldable pub accrued : {A : Type 0} → Amounts A → Note → Date → Outcome A
 accrued v n today = andThen (noteChecks true true n) (λ m. accruedOn v m today)
 
@@ -58,8 +62,10 @@ accrued v n today = andThen (noteChecks true true n) (λ m. accruedOn v m today)
 abbrev pub CloseAmount : Float → Exact → Type 0
 CloseAmount x q = Close 100000 x (q .num) (q .den)
 
--- what the entry point promises of its result r: its bits, and, for a denomination up to 1,000,000, how far off it is.
--- The checks judge the rate, and the bound holds for every coupon period, so that neither is asked for again
+-- what the entry point promises of its result r: its bits, and, for a denomination up to 1,000,000,
+-- how far off it is.
+-- The checks judge the rate, and the bound holds for every coupon period, so that neither is asked
+-- for again
 abbrev pub AccruedPromise : Note → Date → YearFraction → Type 0
 AccruedPromise n today r =
     (fractionOutcome r ≡ accrued amountsInF64 n today) × (n .denomination ≤ 1000000 → Agree CloseAmount (fractionOutcome r) (accrued amountsExactly n today))

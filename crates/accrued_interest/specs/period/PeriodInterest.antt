@@ -1,4 +1,5 @@
--- The interest accrued in one coupon period of a note: nothing, or an amount that is due, as an f64 and as its exact value.
+-- The interest accrued in one coupon period of a note: nothing, or an amount that is due, as an f64
+-- and as its exact value.
 use Prim.Native.Nat.{ℕ, _-_, _*_, _<_, _≤_}
 use mathlib.Core.Path.{_≡_}
 use mathlib.Core.Bool.{true}
@@ -48,7 +49,8 @@ amountDue v n today p =
 unfoldable pub accruedIn : {A : Type 0} → Amounts A → Note → Date → CouponPeriod → Outcome A
 accruedIn v n today p = pick (isBefore (p .end) (n .maturity)) (amountDue v n today p) (given (v .nothing))
 
--- the f64: the full amount, denomination x rate / 100 x fraction, times elapsed days over period days; the 0 is +0
+-- the f64: the full amount, denomination x rate / 100 x fraction, times elapsed days over period
+-- days; the 0 is +0
 abbrev pub dueBits : Note → Float → ℕ → ℕ → Float
 dueBits n fraction elapsed days = mul binary64 (interestOn (whole (pos (n .denomination))) (n .rate) fraction) (quotient (pos elapsed) days)
 

@@ -36,7 +36,8 @@ negative : (x t : ℕ) → (x < 2047) ⊎ (x ≡ 2047) → isCouponRate (ofField
 negative x t (inl l) = let z = is-finite true x t l in rw (z .2) (negative-no-rate (z .0) (z .1))
 negative x t (inr e) = rw (e) (not-finite-no-rate (ofFields binary64 true 2047 t) (not-finite true t))
 
--- from these bits on the sign bit is set or the number is not finite; below them it is finite and its sign bit is clear
+-- from these bits on the sign bit is set or the number is not finite; below them it is finite and
+-- its sign bit is clear
 pub high-bits : (b : ℕ) → 9218868437227405312 ≤ b → b < 2 ^ 64 → isCouponRate (ofBits binary64 b) ≡ false
 unfolding ofBits
 high-bits b h l = by (lt-or-le b 9223372036854775808)

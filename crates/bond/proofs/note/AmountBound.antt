@@ -1,4 +1,5 @@
--- The bound of an amount, for coupons and for accrued interest: denomination x rate / 100 x fraction as f64 beside the same over fractions.
+-- The bound of an amount, for coupons and for accrued interest: denomination x rate / 100 x
+-- fraction as f64 beside the same over fractions.
 use Prim.Native.Nat.{ℕ, _*_, _^_, _≤_}
 use mathlib.Core.Path.{_≡_, refl, sym, _∙_, ap, subst}
 use mathlib.Core.Bool.{true, false, false≢true}
@@ -30,7 +31,8 @@ rate-near (inf false) f h = absurd (false≢true h)
 rate-near (fin true m e) f h = absurd (false≢true h)
 rate-near (fin false m e) f h = near-own (fin false m e) 100 f tt (omega (arith, leb-true (m * up e) (100 * down e) h))
 
--- an amount is at most 1,000,000 x 10150, and within 1,750,000 / 2^38 of the exact one, which is less than 1 / 157,000
+-- an amount is at most 1,000,000 x 10150, and within 1,750,000 / 2^38 of the exact one, which is
+-- less than 1 / 157,000
 abbrev pub AmountNear : Float → Exact → Type 0
 AmountNear x q = Near x (plus (q .num)) (minus (q .num)) (q .den) 10150000000 (1750000 * 2 ^ 62)
 

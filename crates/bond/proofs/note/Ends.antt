@@ -45,7 +45,8 @@ coupon-itself : (c x : CouponDate) → couponDate (c .day) (c .month) ≡ given 
 coupon-itself c x e = e ∙ ap given (coupon-yes (c .day) (c .month) x e .itself)
 
 module _ (position table : Bool) (n m : Note) (e : noteChecks position table n ≡ given m) where
-  -- the checks give the note that was judged, a position within its limits and a table that is taken
+  -- the checks give the note that was judged, a position within its limits and a table that is
+  -- taken
   pub record Passed : Type 0 where
     pub itself : n ≡ m
     pub note : Accepted n

@@ -1,4 +1,5 @@
--- The note of the paper's listing, and the refusals of a note in their order, as theorems about the definitions.
+-- The note of the paper's listing, and the refusals of a note in their order, as theorems about the
+-- definitions.
 use Prim.Native.Nat.{ℕ}
 use mathlib.Core.Path.{_≡_, refl}
 use mathlib.Core.Bool.{true, false}
@@ -84,7 +85,8 @@ checks =
       business = refl;
     }
 
--- rates and positions at their limits: 100 is 25 * 2^2, the next f64 is 7036874417766401 / 2^46; 1e9 is 1953125 * 2^9
+-- rates and positions at their limits: 100 is 25 * 2^2, the next f64 is 7036874417766401 / 2^46;
+-- 1e9 is 1953125 * 2^9
 pub record Limits : Type 0 where
   pub zero : isCouponRate (fin false 0 (pos 0)) ≡ true
   pub minus-zero : isCouponRate (fin true 0 (pos 0)) ≡ false

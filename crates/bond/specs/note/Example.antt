@@ -1,4 +1,5 @@
--- Document 01's example note; its list, its accrued interest and its packed bytes are theorems about it.
+-- Document 01's example note; its list, its accrued interest and its packed bytes are theorems
+-- about it.
 use mathlib.Core.Bool.{false}
 use lib.IntN.{pos}
 use lib.Ieee.{fin}
@@ -7,7 +8,8 @@ use Rattle.day_count_conv.specs.declared.conventions.DayCountConv.the-variants 
 use Rattle.day_adjust.specs.declared.DayAdjust.the-variants as rule
 use Rattle.bond.specs.declared.note.Note.{Note}
 
--- a 4 percent note of 1000 EUR, issued 2021-01-15, coupon 15.07, 6M, 30E/360, modified, maturing 2022-01-15. 4 is 1 * 2^2; the paper gives no number, and 00417 is one
+-- a 4 percent note of 1000 EUR, issued 2021-01-15, coupon 15.07, 6M, 30E/360, modified, maturing
+-- 2022-01-15. 4 is 1 * 2^2; the paper gives no number, and 00417 is one
 abbrev pub exampleNote : Note
 exampleNote =
     record {

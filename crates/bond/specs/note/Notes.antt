@@ -47,7 +47,8 @@ termChecks table n =
     unless (both (isDate (n .«issue_date»)) (isDate (n .maturity))) 1
     (andThen (couponDate (n .«coupon_date» .day) (n .«coupon_date» .month)) (λ c. periodChecks table n))
 
--- order for a note: 18, 15 (the rate, and the position where one is taken), 17, 1 for issue and maturity, 7, 8, 13 (where a table is taken), 14, 12
+-- order for a note: 18, 15 (the rate, and the position where one is taken), 17, 1 for issue and
+-- maturity, 7, 8, 13 (where a table is taken), 14, 12
 unfoldable pub noteChecks : Bool → Bool → Note → Outcome Note
 noteChecks position table n =
     unless (isNoteNumber (n .number)) 18
@@ -55,7 +56,8 @@ noteChecks position table n =
     (unless (isCurrency (n .currency)) 17
     (termChecks table n)))
 
--- first coupon end: the coupon date in the issue year if its month is after the issue month, else in the next year; year 10000 is refused 1
+-- first coupon end: the coupon date in the issue year if its month is after the issue month, else
+-- in the next year; year 10000 is refused 1
 unfoldable pub inYearOf : ℕ → CouponDate → Outcome Date
 inYearOf y c = existingDate (record { year = y; month = c .month; day = c .day })
 

@@ -1,4 +1,5 @@
--- The order of the refusals: how a question is answered where the day or the table is refused, and where both are taken.
+-- The order of the refusals: how a question is answered where the day or the table is refused, and
+-- where both are taken.
 use Prim.Native.Nat.{ℕ}
 use mathlib.Core.Path.{_≡_}
 use mathlib.Core.Bool.{true, false}

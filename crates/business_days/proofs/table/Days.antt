@@ -1,4 +1,5 @@
--- What the next and the previous business day are: the nearest one on its side, or none up to the calendar's end.
+-- What the next and the previous business day are: the nearest one on its side, or none up to the
+-- calendar's end.
 use Prim.Native.Nat.{ℕ, zero, suc, _+_, _-_, _*_, _/_, _%_, _≤_, _<_}
 use mathlib.Core.Path.{_≡_, refl, sym, ap, _∙_}
 use mathlib.Core.Bool.{Bool, true, false, not, or-true, true≢false}
@@ -21,7 +22,8 @@ pub weekend-is : (n : ℕ) → 1 ≤ n → n ≤ 3652059 → isWeekend n ≡ leb
 unfolding isWeekend weekdayOf
 weekend-is n h k = rw (day-is (serialDay n) h k)
 
--- the same without a division: the part of 2 ^ 32 that a multiplication by its seventh leaves tells the remainder
+-- the same without a division: the part of 2 ^ 32 that a multiplication by its seventh leaves tells
+-- the remainder
 part-left : (m : ℕ) → m ≤ 3652065 → m * 613566757 % 4294967296 ≡ 3 * (m / 7) + m % 7 * 613566757
 part-left m h = omega arith
 

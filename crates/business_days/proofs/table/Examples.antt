@@ -39,7 +39,8 @@ pub none-on : laterFrom [] 0 738002 ≡ given (serialDay 738002)
 unfolding repeated
 none-on = refl
 
--- 9999-12-31 is a Friday and 0001-01-01 a Monday: past them, and from a holiday there, no business day is left
+-- 9999-12-31 is a Friday and 0001-01-01 a Monday: past them, and from a holiday there, no business
+-- day is left
 pub end-none : nextFrom [] 3652059 ≡ refused 1
 unfolding nextFrom firstOf
 end-none = refl

@@ -1,4 +1,5 @@
--- Steps taken again and again, of any kind: one at a time from either end, and what one of them says of all.
+-- Steps taken again and again, of any kind: one at a time from either end, and what one of them
+-- says of all.
 use Prim.Native.Nat.{ℕ, zero, suc, _+_, _-_, _<_}
 use mathlib.Core.Path.{_≡_, refl, sym, ap, _∙_}
 use native.Mathlib.Omega.{arith}

@@ -1,4 +1,5 @@
--- The answer over a part of the table is that over the whole: the days cut off lie on the other side.
+-- The answer over a part of the table is that over the whole: the days cut off lie on the other
+-- side.
 use Prim.Native.Nat.{ℕ, zero, suc, _+_, _-_, _≤_, _<_}
 use mathlib.Core.Path.{_≡_, refl, ap₂}
 use mathlib.Core.Bool.{Bool}

@@ -1,4 +1,5 @@
--- The place in a table that a day splits it at: the parts on its two sides, how it moves with the day, and what it says of the day.
+-- The place in a table that a day splits it at: the parts on its two sides, how it moves with the
+-- day, and what it says of the day.
 use Prim.Native.Nat.{ℕ, zero, suc, _+_, _-_, _≤_, _<_, zero-le}
 use mathlib.Core.Path.{_≡_, sym, subst}
 use mathlib.Core.Bool.{true, false}

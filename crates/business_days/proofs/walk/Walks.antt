@@ -1,4 +1,5 @@
--- The two walks, day by day with the nearest holiday alongside: at each day what is left to do is the whole answer.
+-- The two walks, day by day with the nearest holiday alongside: at each day what is left to do is
+-- the whole answer.
 use Prim.Native.Nat.{ℕ, _+_, _-_, _≤_, _<_}
 use mathlib.Core.Path.{_≡_, refl, sym, ap, _∙_}
 use mathlib.Core.Bool.{Bool, true, false, not}

@@ -1,4 +1,5 @@
--- What each entry point of `business_days` and `business_days` answers, on every input, and what it promises.
+-- What each entry point of `business_days` answers, on every input, and what it
+-- promises.
 use Prim.Native.Nat.{ℕ}
 use mathlib.Core.Path.{_≡_}
 use mathlib.Core.Bool.{Bool}

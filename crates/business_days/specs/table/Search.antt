@@ -1,4 +1,5 @@
--- What the inner functions ask of their callers, and what the search of the table finds; no promise of an entry point rests on this.
+-- What the inner functions ask of their callers, and what the search of the table finds; no promise
+-- of an entry point rests on this.
 use Prim.Native.Nat.{ℕ, _≤_, _<_}
 use mathlib.Core.Path.{_≡_}
 use mathlib.Core.Bool.{true, false}

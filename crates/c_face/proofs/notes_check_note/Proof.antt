@@ -1,4 +1,5 @@
--- `c_face::notes_check_note` meets its contract: a code's refusal, or the checks' number, is returned.
+-- `c_face::notes_check_note` meets its contract: a code's refusal, or the checks' number, is
+-- returned.
 use mir.Facts.{toZ-ofZ}
 use borrow.Author.Needs.{needs}
 use Rattle.c_face.proofs.notes_check_note.Statement.{statement}

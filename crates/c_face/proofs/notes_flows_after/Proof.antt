@@ -1,4 +1,5 @@
--- `c_face::notes_flows_after` meets its contract: what the entry point answers, with the room that it wrote, is handed over.
+-- `c_face::notes_flows_after` meets its contract: what the entry point answers, with the room that
+-- it wrote, is handed over.
 use Rattle.c_face.proofs.Rooms.{listed-handed}
 use denote.Ref.{now}
 use borrow.Author.Needs.{needs}

@@ -1,4 +1,5 @@
--- `c_face::notes_fuzzy_cash_flows_cmp_eq` meets its contract: what the entry point answers is handed over.
+-- `c_face::notes_fuzzy_cash_flows_cmp_eq` meets its contract: what the entry point answers is
+-- handed over.
 use borrow.Author.Needs.{needs}
 use Rattle.c_face.proofs.notes_fuzzy_cash_flows_cmp_eq.Statement.{statement}
 use Rattle.c_face.proofs.notes_fuzzy_cash_flows_cmp_eq.Tie as tie

@@ -1,4 +1,5 @@
--- `c_face::notes_list_note` meets its contract: what the entry point answers, with the room that it wrote, is handed over.
+-- `c_face::notes_list_note` meets its contract: what the entry point answers, with the room that it
+-- wrote, is handed over.
 use Rattle.c_face.proofs.Rooms.{text-handed}
 use borrow.Author.Needs.{needs}
 use Rattle.c_face.proofs.notes_list_note.Statement.{statement}

@@ -1,4 +1,5 @@
--- `c_face::notes_rollout_flows` meets its contract: the code's refusal, or what the entry point answers, is handed over.
+-- `c_face::notes_rollout_flows` meets its contract: the code's refusal, or what the entry point
+-- answers, is handed over.
 use mathlib.Core.Path.{refl}
 use Rattle.rollout.specs.plain.Rollout.{fitted}
 use Rattle.c_face.proofs.Rooms.{flows-handed}

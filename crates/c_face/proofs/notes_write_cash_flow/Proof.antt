@@ -1,4 +1,5 @@
--- `c_face::notes_write_cash_flow` meets its contract: what the entry point answers, with the room that it wrote, is handed over.
+-- `c_face::notes_write_cash_flow` meets its contract: what the entry point answers, with the room
+-- that it wrote, is handed over.
 use Rattle.flow_text.specs.flow.Texts.{flowShown}
 use Rattle.c_values.specs.arguments.Numbers.{date, currency, flow}
 use Rattle.c_face.proofs.Rooms.{shown-handed}

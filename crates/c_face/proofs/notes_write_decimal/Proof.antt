@@ -1,4 +1,5 @@
--- `c_face::notes_write_decimal` meets its contract: what the entry point answers, with the room that it wrote, is handed over.
+-- `c_face::notes_write_decimal` meets its contract: what the entry point answers, with the room
+-- that it wrote, is handed over.
 use Rattle.decimal.specs.float.Decimal.{decimalShown}
 use Rattle.c_face.proofs.Rooms.{shown-handed}
 use denote.Ref.{now}

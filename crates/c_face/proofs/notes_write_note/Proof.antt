@@ -1,4 +1,5 @@
--- `c_face::notes_write_note` meets its contract: the code's refusal, or what the entry point answers, is handed over.
+-- `c_face::notes_write_note` meets its contract: the code's refusal, or what the entry point
+-- answers, is handed over.
 use mathlib.Core.Path.{refl}
 use Rattle.packed_write.specs.packed.Writing.{packedNote}
 use Rattle.c_face.proofs.Rooms.{shown-handed}

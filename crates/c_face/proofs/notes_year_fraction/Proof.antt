@@ -1,4 +1,5 @@
--- `c_face::notes_year_fraction` meets its contract: the code's refusal, or what the entry point answers, is handed over.
+-- `c_face::notes_year_fraction` meets its contract: the code's refusal, or what the entry point
+-- answers, is handed over.
 use mathlib.Core.Path.{refl}
 use borrow.Author.Needs.{needs}
 use Rattle.c_face.proofs.notes_year_fraction.Statement.{statement}

@@ -1,4 +1,5 @@
--- What is handed over is fixed by the outcome, and fixes it: one number and one contents for each outcome, and one outcome for each number and contents.
+-- What is handed over is fixed by the outcome, and fixes it: one number and one contents for each
+-- outcome, and one outcome for each number and contents.
 use Prim.Native.Nat.{ℕ}
 use mathlib.Core.Path.{_≡_, sym, _∙_, ap}
 use native.Mathlib.Omega.{arith}

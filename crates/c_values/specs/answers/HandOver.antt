@@ -4,8 +4,10 @@ use mathlib.Core.Path.{_≡_}
 use mathlib.Core.Bool.{Bool}
 use Rattle.outcome.specs.Outcome.{Outcome, number, value, pick}
 
--- the refusal's number is returned, or 0; what is lent holds the value then, and its old contents where there is none.
--- All that is lent is one value: a number, a date's three numbers, a count and the lists that it counts
+-- the refusal's number is returned, or 0; what is lent holds the value then, and its old contents
+-- where there is none.
+-- All that is lent is one value: a number, a date's three numbers, a count and the lists that it
+-- counts
 abbrev pub HandsOver : {A : Type 0} → Outcome A → ℕ → A → A → Type 0
 HandsOver o r old new = (r ≡ number o) × (new ≡ value old o)
 

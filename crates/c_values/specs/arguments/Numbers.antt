@@ -1,4 +1,5 @@
--- What the numbers that come from C stand for. A code that there is none of is refused 18, in the order of the arguments, before anything else.
+-- What the numbers that come from C stand for. An unknown code is refused 18, in the
+-- order of the arguments, before anything else.
 use Prim.Native.Nat.{ℕ}
 use lib.Dec.{ltb}
 use lib.IntN.{ℤ}

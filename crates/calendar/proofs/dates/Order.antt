@@ -1,4 +1,5 @@
--- The order of dates, by year, month and day, is that of their serial days; and the months in their order.
+-- The order of dates, by year, month and day, is that of their serial days; and the months in their
+-- order.
 use Prim.Native.Nat.{ℕ, suc, _+_, _/_, _%_, _≤_, _<_, min}
 use mathlib.Core.Path.{_≡_, refl, sym, _∙_, ap}
 use mathlib.Core.Bool.{Bool, true, false}

@@ -1,4 +1,5 @@
--- Counting off: the sum of the first values of f, and the unit that a day falls in. For years and for months.
+-- Counting off: the sum of the first values of f, and the unit that a day falls in. For years and
+-- for months.
 use Prim.Native.Nat.{ℕ, zero, suc, _+_, _-_, _*_, _≤_, _<_}
 use mathlib.Core.Path.{_≡_, refl, _∙_, ap}
 use mathlib.Core.Bool.{Bool, true, false}

@@ -1,4 +1,5 @@
--- A table's rule proved once: the list is compared with its rule's values, or a test is computed at each number, and a lemma turns that to each entry.
+-- A table's rule proved once: the list is compared with its rule's values, or a test is computed at
+-- each number, and a lemma turns that to each entry.
 use Prim.Native.Nat.{ℕ, zero, suc, _<_}
 use mathlib.Core.Path.{_≡_, _∙_, ap}
 use mathlib.Core.Bool.{Bool, true}

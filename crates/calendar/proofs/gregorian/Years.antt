@@ -121,7 +121,8 @@ hundreds y h = by (eqb (y % 16) 0) (eqb (y % 400) 0) refl refl
         absurd (omega (arith, eqb-false (y % 400) 0 q))
     by false true p q = absurd (omega (arith, eqb-false (y % 16) 0 p, eqb-true (y % 400) 0 q))
 
--- of those that 25 divides the leap years are those that 16 divides, and of the others those that 4 divides
+-- of those that 25 divides the leap years are those that 16 divides, and of the others those that 4
+-- divides
 pub leap-of-25 : (y : ℕ) → y % 25 ≡ 0 → eqb (y % 16) 0 ≡ leap y
 unfolding leap
 leap-of-25 y h = by (eqb (y % 100) 0) refl

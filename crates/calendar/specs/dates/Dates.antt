@@ -1,4 +1,5 @@
--- Dates and serial days of the calendar, which runs from 0001-01-01, day 1, to 9999-12-31, day 3652059.
+-- Dates and serial days of the calendar, which runs from 0001-01-01, day 1, to 9999-12-31, day
+-- 3652059.
 use Prim.Native.Nat.{ℕ, _+_, _-_, _*_, _/_, _%_, min}
 use mathlib.Core.Bool.{Bool}
 use lib.Dec.{eqb, leb, ltb}

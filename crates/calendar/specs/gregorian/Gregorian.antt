@@ -1,4 +1,5 @@
--- The proleptic Gregorian calendar (ISO 8601), by counting: leap years, the lengths of months and years, and the days before each.
+-- The proleptic Gregorian calendar (ISO 8601), by counting: leap years, the lengths of months and
+-- years, and the days before each.
 use Prim.Native.Nat.{ℕ, zero, suc, _+_, _-_, _%_}
 use mathlib.Core.Bool.{Bool, true, false}
 use mathlib.Core.List.{List, [], _∷_}
@@ -38,7 +39,8 @@ beforeYear y = daysBefore yearLength y
 abbrev pub beforeMonth : ℕ → ℕ → ℕ
 beforeMonth y m = daysBefore (monthLength y) m
 
--- the unit (year or month) of length f in which the n-th day falls, counted from the start of unit u: whole units are taken off
+-- the unit (year or month) of length f in which the n-th day falls, counted from the start of unit
+-- u: whole units are taken off
 unfoldable pub unitHolding : (ℕ → ℕ) → ℕ → ℕ → ℕ → ℕ
 unitHolding f zero u n = u
 unitHolding f (suc k) u n = elim (leb n (f u)) [ true ↦ u | false ↦ unitHolding f k (suc u) (n - f u) ]

@@ -1,4 +1,5 @@
--- No second answer satisfies an entry point's promise; and an amount's answer is fixed by its outcome.
+-- No second answer satisfies an entry point's promise; and an amount's answer is fixed by its
+-- outcome.
 use mathlib.Core.Path.{_≡_, refl}
 use mathlib.Core.Bool.{Bool}
 use lib.Ieee.{Float}

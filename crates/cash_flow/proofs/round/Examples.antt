@@ -1,4 +1,5 @@
--- Amounts rounded, as theorems about the definitions: each computes. A number is written by its bits.
+-- Amounts rounded, as theorems about the definitions: each computes. A number is written by its
+-- bits.
 use Prim.Native.Nat.{ℕ}
 use mathlib.Core.Path.{_≡_, refl}
 use mathlib.Core.Bool.{false}

@@ -1,4 +1,5 @@
--- A number below 2 ^ 52 rounded by its bits: its field is 1074 at the most, and the fields give the nearest whole number.
+-- A number below 2 ^ 52 rounded by its bits: its field is 1074 at the most, and the fields give the
+-- nearest whole number.
 use Prim.Native.Nat.{ℕ, zero, suc, _+_, _*_, _/_, _%_, _^_, _≤_, _<_}
 use mathlib.Core.Path.{_≡_, refl, sym, ap, _∙_, subst}
 use mathlib.Core.Logic.{⊎-elim}

@@ -1,4 +1,5 @@
--- What the rounding means, once for every number of digits: the whole number chosen is at most a half from the f64 product,
+-- What the rounding means, once for every number of digits: the whole number chosen is at most a
+-- half from the f64 product,
 -- from exactly half way it is the one away from zero, and the sign is the amount's.
 use Prim.Native.Nat.{ℕ, _+_, _*_, _^_, _≤_, _<_}
 use mathlib.Core.Path.{_≡_, refl, sym, ap, _∙_, subst}
@@ -18,7 +19,7 @@ use borrow.Author.Tests.{leb-true, ne-eqb}
 use Rattle.outcome.proofs.Outcomes.{both-true}
 use Rattle.cash_flow.specs.currency.Amounts.{upTo}
 use Rattle.rounding.proofs.Algebra.{Apart}
-use Rattle.rounding.proofs.HalfUnit.{Rounded, round-near}
+use Rattle.rounding.proofs.HalfUlp.{Rounded, round-near}
 use Rattle.rounding.proofs.Near.{in-range}
 use Rattle.rounding.proofs.Operations.{by-value, some-units}
 use Rattle.cash_flow.specs.round.RoundedAmounts.{isWidth, isRoundable, powerOfTen, nearestWhole, roundedAway, roundedBy}
@@ -34,7 +35,8 @@ pub record Away (y r : Float) : Type 0 where
   -- the whole number with that sign
   pub whole : ℕ
   pub value : HasValue r sign whole 1
-  -- twice the distance between the whole number and y's size is 1 at the most, multiplied out by y's denominator
+  -- twice the distance between the whole number and y's size is 1 at the most, multiplied out by
+  -- y's denominator
   pub near : Apart (whole * den y * 2) (num y * 2) (den y)
   -- half way between w and w + 1 it is w + 1: away from zero
   pub tie : (w : ℕ) → num y * 2 ≡ (2 * w + 1) * den y → whole ≡ w + 1

@@ -1,4 +1,5 @@
--- The nearest whole number, a half up: what it means, that equal fractions have the same one, and how a shift finds it.
+-- The nearest whole number, a half up: what it means, that equal fractions have the same one, and
+-- how a shift finds it.
 use Prim.Native.Nat.{ℕ, zero, suc, _+_, _-_, _*_, _/_, _^_, _≤_, _<_}
 use mathlib.Core.Path.{_≡_, refl, sym, ap, _∙_}
 use native.Mathlib.Nat.{lt-of-lt-of-le, mul-pos, mul-assoc, mul-comm, div-add-mod', mod-lt, div-eq-of-lt, div-eq-of-eq-mul-left, div-div-eq-div-mul, add-mul-div-right, div-le-self}

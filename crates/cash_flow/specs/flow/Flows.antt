@@ -17,7 +17,8 @@ abbrev pub flowsOutcome : FlowsAnswer → Outcome ℕ
 flowsOutcome (Flows n) = given n
 flowsOutcome (Refused n) = refused n
 
--- the date of a serial day in a plain list; a day that does not exist has the zero date of a refusal
+-- the date of a serial day in a plain list; a day that does not exist has the zero date of a
+-- refusal
 abbrev pub noDate : Date
 noDate = record { year = 0; month = 0; day = 0 }
 
@@ -34,11 +35,13 @@ absolute nan = nan
 absolute (inf s) = inf false
 absolute (fin s m e) = fin false m e
 
--- a difference, its sign dropped, is at most the tolerance (nothing is at most a NaN, nor a NaN at most anything)
+-- a difference, its sign dropped, is at most the tolerance (nothing is at most a NaN, nor a NaN at
+-- most anything)
 unfoldable pub isWithin : Float → Float → Bool
 isWithin d tol = le (absolute d) tol
 
--- yes if dates and currencies are equal and the f64 difference, sign dropped, is at most the tolerance; else no
+-- yes if dates and currencies are equal and the f64 difference, sign dropped, is at most the
+-- tolerance; else no
 unfoldable pub sameFlows : CashFlow → CashFlow → Float → Bool
 sameFlows a b tol = both (aggregatableFlows a b) (isWithin (sub binary64 (a .amount) (b .amount)) tol)
 

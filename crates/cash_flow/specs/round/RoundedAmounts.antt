@@ -22,7 +22,8 @@ isRoundable x digits = both (isWidth digits) (upTo 1000000000 x)
 unfoldable pub powerOfTen : ℤ → Float
 powerOfTen digits = ofInt binary64 (pos (10 ^ natAbs digits))
 
--- the whole number nearest to n / d, and from exactly half way the larger: n / d + 1 / 2 without its fraction
+-- the whole number nearest to n / d, and from exactly half way the larger: n / d + 1 / 2 without
+-- its fraction
 unfoldable pub nearestWhole : ℕ → ℕ → ℕ
 nearestWhole n d = (2 * n + d) / (2 * d)
 

@@ -1,4 +1,5 @@
--- `coupon_date::new_coupon_date` meets its contract: each `return` is one of the checks, in their order.
+-- `coupon_date::new_coupon_date` meets its contract: each `return` is one of the checks, in their
+-- order.
 use native.Mathlib.Omega.{arith}
 use borrow.Author.Tests.{le-leb, lt-leb}
 use borrow.Author.Needs.{needs}

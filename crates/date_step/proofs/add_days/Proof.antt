@@ -1,4 +1,5 @@
--- `date_step::add_days` meets its contract: a move of more than the calendar leads out of it, and any other is that of a date already judged.
+-- `date_step::add_days` meets its contract: a move of more than the calendar leads out of it, and
+-- any other is that of a date already judged.
 use Prim.Native.Nat.{ℕ}
 use mathlib.Core.Path.{_≡_, sym, _∙_, ap}
 use mathlib.Core.Bool.{Bool, true, false}

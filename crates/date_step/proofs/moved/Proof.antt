@@ -1,4 +1,5 @@
--- `date_step::moved` meets its contract: the sum fits, and is taken where it lies from 0 to the last.
+-- `date_step::moved` meets its contract: the sum fits, and is taken where it lies from 0 to the
+-- last.
 use Prim.Native.Nat.{ℕ, _<_, _^_}
 use mathlib.Core.Path.{_≡_, sym, _∙_, ap, ap₂, subst}
 use mathlib.Core.Bool.{Bool, true, not}

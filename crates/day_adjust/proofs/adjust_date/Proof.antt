@@ -1,4 +1,5 @@
--- `day_adjust::adjust_date` meets its contract: the date and the table are judged in the order of the refusals, and then the rule is applied.
+-- `day_adjust::adjust_date` meets its contract: the date and the table are judged in the order of
+-- the refusals, and then the rule is applied.
 use mathlib.Core.Path.{_≡_, sym, _∙_, subst}
 use mathlib.Core.Bool.{true, false}
 use borrow.Author.Tests.{not-true, not-false}

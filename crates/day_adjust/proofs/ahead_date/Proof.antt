@@ -1,4 +1,5 @@
--- `day_adjust::ahead_date` meets its contract: ahead first, and back where the month differs and may not.
+-- `day_adjust::ahead_date` meets its contract: ahead first, and back where the month differs and
+-- may not.
 use Prim.Native.Nat.{ℕ}
 use mathlib.Core.Path.{_≡_, sym, _∙_, ap}
 use mathlib.Core.Bool.{Bool, true, false, _||_}

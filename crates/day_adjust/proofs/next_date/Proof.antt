@@ -1,4 +1,5 @@
--- `day_adjust::next_date` meets its contract: the search, and the date of the day it found, which is one of the calendar.
+-- `day_adjust::next_date` meets its contract: the search, and the date of the day it found, which
+-- is one of the calendar.
 use Prim.Native.Nat.{_≤_}
 use mathlib.Core.Path.{_≡_, sym, _∙_, ap}
 use native.Mathlib.Omega.{arith}

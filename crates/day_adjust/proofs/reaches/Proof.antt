@@ -1,4 +1,5 @@
--- `day_adjust::reaches` meets its contract: every month has 28 days, and past them its length decides.
+-- `day_adjust::reaches` meets its contract: every month has 28 days, and past them its length
+-- decides.
 use mathlib.Core.Path.{sym, ap}
 use native.Mathlib.Omega.{arith}
 use lib.Dec.{leb}

@@ -1,4 +1,5 @@
--- Outcomes that agree: one check or one step before both keeps them so, whatever closeness is asked of the values.
+-- Outcomes that agree: one check or one step before both keeps them so, whatever closeness is asked
+-- of the values.
 use Prim.Native.Nat.{ℕ}
 use mathlib.Core.Path.{_≡_, refl}
 use mathlib.Core.Bool.{Bool, true, false}

@@ -1,4 +1,5 @@
--- Each fraction given is within 1 / 2 ^ 38 of the exact one, by every rule; and where one is refused, so is the other, with one number.
+-- Each fraction given is within 1 / 2 ^ 38 of the exact one, by every rule; and where one is
+-- refused, so is the other, with one number.
 use Prim.Native.Nat.{ℕ, _≤_}
 use mathlib.Core.Path.{_≡_, refl, sym, subst}
 use mathlib.Core.Bool.{true, not}

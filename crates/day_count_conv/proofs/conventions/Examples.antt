@@ -66,7 +66,8 @@ order =
       code-six = refl;
     }
 
--- where a step clips, the first broken part may be negative, and the whole may be 0 on two dates: an answer, and no refusal
+-- where a step clips, the first broken part may be negative, and the whole may be 0 on two dates:
+-- an answer, and no refusal
 pub record Clipped : Type 0 where
   pub negative : yearFraction fractionsExactly conv.ActActICMA (on 2021 3 30) (on 2021 3 31) (rolled (on 2021 3 31) (pos 1)) ≡ given (over (negsuc 1) 336)
   pub zero-on-two-dates : yearFraction fractionsExactly conv.ActActICMA (on 2021 5 30) (on 2021 5 31) (rolled (on 2021 5 31) (pos 1)) ≡ given (over (pos 0) 360)

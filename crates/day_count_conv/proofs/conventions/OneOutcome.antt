@@ -1,4 +1,5 @@
--- No second answer satisfies an entry point's promise; a refusal's number is never 0; and codes and conventions name each other.
+-- No second answer satisfies an entry point's promise; a refusal's number is never 0; and codes and
+-- conventions name each other.
 use Prim.Native.Nat.{ℕ}
 use mathlib.Core.Path.{_≡_, refl, sym, _∙_}
 use mathlib.Core.Bool.{not}

@@ -72,7 +72,8 @@ short-near days l f lf uf h k s =
     let Y = subst (λ (y : Float). Near (div binary64 (ofInt binary64 (pos days)) y) days 0 (1 * (l * f)) 32 (0 + 2 ^ (46 + 6))) (sym (whole-mul l f (omega arith) (omega arith))) X in
     lands (partsExact f (Short days l)) Y (of-int (pos days)) (omega arith) (omega arith) (lit≤ tt) (lit≤ tt)
 
--- by the frequency: a count of n periods of m months is below the power of two that the frequency allows
+-- by the frequency: a count of n periods of m months is below the power of two that the frequency
+-- allows
 pub walk-near : (u : TimePeriodUnit) (n f : ℕ) (x : Parts) → Regular u n f → PartsSize (monthsIn u n) x → NearTo (partsBits f x) (partsExact f x)
 walk-near u n f (Short days l) r s = let w = whole-year u n f r in short-near days l f (w .from) (w .to) (s .0) (s .1) (s .2)
 walk-near u n f (Long first last c) (one-month a b d) s =

@@ -142,21 +142,24 @@ rollDated conv.D30_360 r = true
 rollDated conv.D30E360 r = true
 rollDated conv.ActActICMA r = rollDateExists r
 
--- order: 1 (start, end and, under ICMA only, a roll date given), 19, then 10, 11, 5, 14, the walk or 9
+-- order: 1 (start, end and, under ICMA only, a roll date given), 19, then 10, 11, 5, 14, the walk
+-- or 9
 unfoldable pub yearFraction : {A : Type 0} → Values A → DayCountConv → Date → Date → NoteTerms → Outcome A
 yearFraction v rule start end x =
     unless (both (isDate start) (both (isDate end) (rollDated rule (x .roll)))) 1
     (unless (not (isBefore end start)) 19
     (byRule v rule start end x))
 
--- the f64, by finql's operations in its order; and the exact fraction, a signed whole number over a positive one
+-- the f64, by finql's operations in its order; and the exact fraction, a signed whole number over a
+-- positive one
 abbrev pub fractionsInF64 : Values Float
 fractionsInF64 = record { simple = bits; walked = partsBits }
 
 abbrev pub fractionsExactly : Values Exact
 fractionsExactly = record { simple = exactFraction; walked = partsExact }
 
--- two outcomes agree: the f64 given is close to the exact value given, whose lower number is above 0; or the same is refused
+-- two outcomes agree: the f64 given is close to the exact value given, whose lower number is above
+-- 0; or the same is refused
 abbrev pub Agree : (Float → Exact → Type 0) → Outcome Float → Outcome Exact → Type 0
 Agree Near (given x) (given q) = (1 ≤ q .den) × Near x q
 Agree Near (given x) (refused n) = ⊥

@@ -1,4 +1,5 @@
--- `day_fraction::calc_act_365_leap` meets its contract: every number is that of `leapBits`, and so is the order of the operations.
+-- `day_fraction::calc_act_365_leap` meets its contract: every number is that of `leapBits`, and so
+-- is the order of the operations.
 use native.Mathlib.Omega.{arith}
 use borrow.Author.Needs.{needs}
 use Rattle.calendar.proofs.dates.Dates.{date-yes}

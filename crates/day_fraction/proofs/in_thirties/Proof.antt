@@ -1,4 +1,5 @@
--- `day_fraction::in_thirties` meets its contract: three signed differences, divided and added in the order of `thirtiesBits`.
+-- `day_fraction::in_thirties` meets its contract: three signed differences, divided and added in
+-- the order of `thirtiesBits`.
 use native.Mathlib.Omega.{arith}
 use borrow.Author.Needs.{needs}
 use Rattle.calendar.proofs.dates.Dates.{date-yes}

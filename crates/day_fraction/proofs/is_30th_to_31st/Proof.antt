@@ -1,4 +1,5 @@
--- `day_fraction::is_30th_to_31st` meets its contract: the four tests hold exactly from the 30th to the 31st of one month.
+-- `day_fraction::is_30th_to_31st` meets its contract: the four tests hold exactly from the 30th to
+-- the 31st of one month.
 use mathlib.Core.Path.{sym}
 use mathlib.Core.Bool.{false, true≢false}
 use lib.Dec.{eqb}

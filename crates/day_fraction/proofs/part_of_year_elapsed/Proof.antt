@@ -1,4 +1,5 @@
--- `day_fraction::part-of-year-elapsed` meets its contract: the days before the month, and those before the day, over 366 in a leap year and 365 in another.
+-- `day_fraction::part-of-year-elapsed` meets its contract: the days before the month, and those
+-- before the day, over 366 in a leap year and 365 in another.
 use Prim.Native.Nat.{ℕ, _+_, _-_}
 use mathlib.Core.Path.{_≡_, sym, _∙_, ap}
 use native.Mathlib.Omega.{arith}

@@ -14,7 +14,8 @@ use Rattle.number_text.proofs.length.Digits.{length-digits}
 use Rattle.number_text.proofs.write.Putting.{put-last, put-none, put-front}
 use Rattle.decimal.specs.big_digits.BigDigits.{Multiplied}
 
--- where the first suc j elements are the digits of v, element j is the last of them, and the first j are those of v / 10
+-- where the first suc j elements are the digits of v, element j is the last of them, and the first
+-- j are those of v / 10
 last-digit : (l : List ℕ) (j v : ℕ) → j < length l → take (suc j) l ≡ digits (suc j) v → getD l j 0 ≡ 48 + v % 10
 unfolding digits
 last-digit l j v h e =
@@ -25,7 +26,8 @@ unfolding digits
 first-digits l j v e =
     sym (take-take j (suc j) l (omega arith)) ∙ ap (take j) e ∙ take-at (digits j (v / 10)) ((48 + v % 10) ∷ []) j (length-digits j (v / 10))
 
--- half way: the first i elements of o are still the old digits, and with the new ones in their place all is done; c is the carry
+-- half way: the first i elements of o are still the old digits, and with the new ones in their
+-- place all is done; c is the carry
 abbrev pub Half : ℕ → List ℕ → ℕ → ℕ → ℕ → ℕ → Type 0
 Half m o i c k n = (take i o ≡ digits i (n / 10 ^ (k - i))) × (put o 0 (digits i (n / 10 ^ (k - i) * m + c)) ≡ digits k (n * m))
 

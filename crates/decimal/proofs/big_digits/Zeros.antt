@@ -61,7 +61,8 @@ no-digits v = refl
 pub places-exact : (k w : ℕ) → 10 ^ k ≤ w → w < 10 ^ suc k → places w ≡ suc k
 places-exact k w l h = ⊎-elim (λ p. absurd (omega (arith, places-enough w, pow-le-pow-right {n = 10} (omega arith) {i = places w} {j = k} (omega arith)))) (λ p. omega (arith, places-least (suc k) w (omega arith) h)) (lt-or-le (places w) (suc k))
 
--- of a number of at most k + 1 digits, written with k + 1, the zeros before its own digits stand among the first k
+-- of a number of at most k + 1 digits, written with k + 1, the zeros before its own digits stand
+-- among the first k
 zero-more : (k w : ℕ) → w < 10 ^ suc k → zerosLeading (digits (suc k) (w / 10)) ≡ suc (zerosLeading (digits k (w / 10)))
 zero-more k w h =
     let none : w / 10 / 10 ^ k ≡ 0 = div-eq-of-lt (omega (arith, pow-suc 10 k)) in

@@ -1,4 +1,5 @@
--- A number's sign and ten-thousandths from its bits. By its fields it is q * 2 ^ k / 2 ^ 1074, and 10000 is 625 * 16.
+-- A number's sign and ten-thousandths from its bits. By its fields it is q * 2 ^ k / 2 ^ 1074, and
+-- 10000 is 625 * 16.
 use Prim.Native.Nat.{ℕ, zero, suc, _+_, _-_, _*_, _/_, _%_, _^_, _≤_, _<_}
 use mathlib.Core.Path.{_≡_, refl, sym, ap, _∙_}
 use mathlib.Core.Bool.{Bool, true}

@@ -14,7 +14,8 @@ use Rattle.decimal.specs.float.Decimal.{tenThousandths, fourDecimals, de
 abbrev after : ℕ → List ℕ → List ℕ
 after n xs = replicate n 32 ++ xs
 
--- a number is its mantissa times a power of two: 1 / 32 is `fin false 1 (negsuc 4)`, and `negsuc 4` is -5
+-- a number is its mantissa times a power of two: 1 / 32 is `fin false 1 (negsuc 4)`, and `negsuc 4`
+-- is -5
 pub record Texts : Type 0 where
   -- 20.0000, as in the paper's listing
   pub twenty : decimalText16 (fin false 5 (pos 2)) ≡ after 9 (50 ∷ 48 ∷ 46 ∷ 48 ∷ 48 ∷ 48 ∷ 48 ∷ [])

@@ -1,4 +1,5 @@
--- A quotient by a power of two, an exact half to the even whole number: its three cases, and the machine's forms of them.
+-- A quotient by a power of two, an exact half to the even whole number: its three cases, and the
+-- machine's forms of them.
 use Prim.Native.Nat.{ℕ, zero, suc, _+_, _-_, _*_, _/_, _%_, _^_, _≤_, _<_, compare, Ordering·lt, Ordering·eq, Ordering·gt, compare·zero-zero, compare·zero-suc, compare·suc-zero, compare·suc-suc}
 use mathlib.Core.Path.{_≡_, _∙_}
 use native.Mathlib.Nat.{mod-eq-of-lt, div-eq-of-lt, div-mul-le-self}

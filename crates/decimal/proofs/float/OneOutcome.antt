@@ -1,4 +1,5 @@
--- No second outcome meets a promise: each fixes the answer and the bytes. A refusal's number is never 0.
+-- No second outcome meets a promise: each fixes the answer and the bytes. A refusal's number is
+-- never 0.
 use Prim.Native.Nat.{ℕ}
 use mathlib.Core.Path.{_≡_}
 use mathlib.Core.List.{List}

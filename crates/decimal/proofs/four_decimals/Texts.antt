@@ -1,4 +1,5 @@
--- Laws of the text: its length, its parts one after another, and the same text from an array of digits.
+-- Laws of the text: its length, its parts one after another, and the same text from an array of
+-- digits.
 use Prim.Native.Nat.{ℕ, zero, suc, _+_, _-_, _*_, _/_, _%_, _^_, _≤_, _<_, max}
 use mathlib.Core.Path.{_≡_, sym, ap, _∙_}
 use mathlib.Core.Bool.{Bool}

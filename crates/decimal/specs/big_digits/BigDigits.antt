@@ -7,7 +7,8 @@ use lib.ListN.{length}
 use Rattle.outcome.specs.Outcome.{pick}
 use Rattle.number_text.specs.write.Writing.{digits}
 
--- where the old bytes d are the last digits of a number, the new bytes e are those of m times that number
+-- where the old bytes d are the last digits of a number, the new bytes e are those of m times that
+-- number
 abbrev pub Multiplied : ℕ → List ℕ → List ℕ → Type 0
 Multiplied m d e = (n : ℕ) → d ≡ digits (length d) n → e ≡ digits (length d) (n * m)
 

@@ -1,4 +1,5 @@
--- An f64 as text: four decimals, rounded from the exact value, an exact half to the even digit, in at least 16 columns.
+-- An f64 as text: four decimals, rounded from the exact value, an exact half to the even digit, in
+-- at least 16 columns.
 use Prim.Native.Nat.{ℕ, _*_}
 use mathlib.Core.List.{List, _++_}
 use lib.IntN.{natAbs}
@@ -11,7 +12,8 @@ use Rattle.number_text.specs.write.Writing.{signText, rightAligned, Writes, Tak
 use Rattle.number_text.specs.declared.write.LengthAnswer.{LengthAnswer}
 unfoldable pub use Rattle.decimal.specs.four_decimals.FourDecimals.{fourDecimals}
 
--- the number of ten-thousandths, without the sign: the fraction numerator / denominator times 10000, rounded to the closest
+-- the number of ten-thousandths, without the sign: the fraction numerator / denominator times
+-- 10000, rounded to the closest
 -- whole number, and from exactly half way to the even one
 unfoldable pub tenThousandths : Float → ℕ
 tenThousandths x = closest (natAbs (numerator x) * 10000) (denominator x)

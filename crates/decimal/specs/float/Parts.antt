@@ -1,4 +1,5 @@
--- What the inner functions hand each other on the way to the text; no promise of an entry point rests on this.
+-- What the inner functions hand each other on the way to the text; no promise of an entry point
+-- rests on this.
 use Prim.Native.Nat.{_*_, _^_, _≤_, _<_}
 use mathlib.Core.Path.{_≡_}
 use mathlib.Core.Bool.{true, false}

@@ -1,4 +1,5 @@
--- What the inner functions hand each other on the way to the text; no promise of an entry point rests on this.
+-- What the inner functions hand each other on the way to the text; no promise of an entry point
+-- rests on this.
 use Prim.Native.Nat.{ℕ, _+_, _-_}
 use mathlib.Core.Bool.{Bool}
 use mathlib.Core.List.{List, _∷_, _++_}
@@ -15,7 +16,8 @@ signedDecimals s n = rightAligned 16 (signText s ++ fourDecimals n)
 abbrev pub frontText : Bool → ℕ → List ℕ
 frontText s size = replicate (16 - (length (signText s) + size)) 32 ++ signText s
 
--- where the whole part begins among the digits d: past its zeros, but before its last digit at the latest
+-- where the whole part begins among the digits d: past its zeros, but before its last digit at the
+-- latest
 abbrev pub wholeStart : List ℕ → ℕ
 wholeStart d = zerosLeading (take (length d - 5) d)
 

@@ -1,4 +1,5 @@
--- Flows after a date, as theorems about the definitions: the three flows of document 01's note, of any amounts.
+-- Flows after a date, as theorems about the definitions: the three flows of document 01's note, of
+-- any amounts.
 use mathlib.Core.Path.{_≡_, refl}
 use mathlib.Core.List.{List, [], _∷_}
 use lib.Ieee.{Float}

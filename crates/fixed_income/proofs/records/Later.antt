@@ -1,4 +1,5 @@
--- A loop over flows of any kind: what is left of them decides. Laws of both passes, the one that judges and counts and the one that writes.
+-- A loop over flows of any kind: what is left of them decides. Laws of both passes, the one that
+-- judges and counts and the one that writes.
 use Prim.Native.Nat.{ℕ, _+_, _≤_, _<_}
 use mathlib.Core.Path.{_≡_, refl, ap, subst, _∙_}
 use mathlib.Core.Bool.{Bool, true, false, true≢false, false≢true}

@@ -1,4 +1,5 @@
--- What the two walks over records share: how a record and a date stand in memory, and the call of `is_later` with both.
+-- What the two walks over records share: how a record and a date stand in memory, and the call of
+-- `is_later` with both.
 use mathlib.Core.Path.{_≡_}
 use mathlib.Core.Bool.{Bool}
 use mathlib.Core.List.{List, [], _∷_}

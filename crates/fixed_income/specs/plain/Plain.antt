@@ -1,5 +1,7 @@
--- Flows in plain lists after a serial day: which they are, how many are written, and what their room holds.
--- An amount is copied as it is, whatever it is. The logic has one NaN, so of a NaN this says that a NaN is written, and not which bits it has.
+-- Flows in plain lists after a serial day: which they are, how many are written, and what their
+-- room holds.
+-- An amount is copied as it is, whatever it is. The logic has one NaN, so of a NaN this says that a
+-- NaN is written, and not which bits it has.
 use Prim.Native.Nat.{ℕ, min}
 use mathlib.Core.Path.{_≡_}
 use mathlib.Core.Bool.{Bool}

@@ -1,5 +1,6 @@
 -- What the entry point promises: how many flows are written, and what its room holds.
--- An amount is copied as it is, whatever it is. The logic has one NaN, so of a NaN this says that a NaN is written, and not which bits it has.
+-- An amount is copied as it is, whatever it is. The logic has one NaN, so of a NaN this says that a
+-- NaN is written, and not which bits it has.
 use Prim.Native.Nat.{ℕ}
 use mathlib.Core.Path.{_≡_}
 use mathlib.Core.Bool.{Bool, true, false}

@@ -1,4 +1,5 @@
--- No second outcome meets the promise: it fixes the answer and the bytes. A refusal's number is never 0.
+-- No second outcome meets the promise: it fixes the answer and the bytes. A refusal's number is
+-- never 0.
 use mathlib.Core.Path.{_≡_}
 use mathlib.Core.List.{List}
 use native.Mathlib.Omega.{arith}

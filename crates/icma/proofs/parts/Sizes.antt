@@ -1,4 +1,5 @@
--- How large the parts are: a broken part is little more than a period, and the count is that of the calendar's months.
+-- How large the parts are: a broken part is little more than a period, and the count is that of the
+-- calendar's months.
 use Prim.Native.Nat.{ℕ, _+_, _-_, _*_, _≤_, _<_}
 use mathlib.Core.Path.{_≡_, refl, sym, _∙_, ap, subst}
 use mathlib.Core.Bool.{Bool, true, false, true≢false}
@@ -8,7 +9,7 @@ use lib.IntN.{ℤ, pos, negℤ, natAbs, _-ℤ_}
 use lib.Signed.{ltZ}
 use Rattle.outcome.specs.Outcome.{given, andThen, pick}
 use Rattle.outcome.proofs.Outcomes.{given-injective, then-given}
-use Rattle.rounding.proofs.Gap.{abs-gap}
+use Rattle.rounding.proofs.Difference.{abs-gap}
 use Rattle.calendar.specs.dates.Dates.{isDate, isBefore, dayNumber, monthIndex}
 use Rattle.calendar.specs.declared.dates.Date.{Date}
 use Rattle.calendar.proofs.dates.Dates.{IsDate, date-yes, number-to}
@@ -101,7 +102,8 @@ module _ (p : TimePeriod) (n : ℕ) (is : p .num ≡ pos n) (some : 1 ≤ months
       let q : _≡_ {A = Walked} (record { at = g .0; count = pick (isBefore (g .0) limit) (x .count) (x .count + 1) }) v = given-injective (g .2) in
       g .1 ∙ ap (λ (w : Walked). given (w .at)) q
 
-  -- a walk back that went past: it stood at a date after the limit, one step on from where it ends but for the day
+  -- a walk back that went past: it stood at a date after the limit, one step on from where it ends
+  -- but for the day
   past-back : (limit t : Date) (v : Walked) → isDate t ≡ true → isBefore t limit ≡ false → isBefore (v .at) limit ≡ true → walkBack (negated p) limit t ≡ given v
       → (x : Date) × (isDate x ≡ true) × (isBefore limit x ≡ true) × (step (negated p) x ≡ given (v .at))
   unfolding walkBack

@@ -10,7 +10,7 @@ use mir.Val.{SFits, toZ, ofZ}
 use mir.Facts.{toZ-ofZ}
 use Rattle.outcome.specs.Outcome.{given}
 use Rattle.outcome.proofs.Outcomes.{then-given}
-use Rattle.rounding.proofs.Gap.{gap-fits, gap-is}
+use Rattle.rounding.proofs.Difference.{gap-fits, gap-is}
 use Rattle.calendar.specs.dates.Dates.{isDate, dayNumber}
 use Rattle.calendar.specs.declared.dates.Date.{Date}
 use Rattle.calendar.proofs.dates.Dates.{date-yes, number-to}

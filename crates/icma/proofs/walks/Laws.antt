@@ -1,4 +1,5 @@
--- What later layers count on: a later date is not before an earlier one, and steps that do not clip add up.
+-- What later layers count on: a later date is not before an earlier one, and steps that do not clip
+-- add up.
 use Prim.Native.Nat.{ℕ, zero, suc, _+_, _*_, _/_, _%_, _≤_}
 use mathlib.Core.Path.{_≡_, refl, _∙_, ap₂}
 use mathlib.Core.Bool.{true}

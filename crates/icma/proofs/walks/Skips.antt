@@ -1,4 +1,5 @@
--- Many steps at once leave the same walk to be made: from a day that no month cuts, each step but moves the month's number.
+-- Many steps at once leave the same walk to be made: from a day that no month cuts, each step but
+-- moves the month's number.
 use Prim.Native.Nat.{ℕ, zero, suc, _+_, _-_, _*_, _/_, _%_, _≤_, _<_}
 use mathlib.Core.Path.{_≡_, refl, sym, _∙_, ap, ap₂}
 use mathlib.Core.Bool.{Bool, true, false, false≢true}

@@ -1,4 +1,5 @@
--- A walk ends: each turn leads nearer to an end of the calendar, so the steps allowed are never used up.
+-- A walk ends: each turn leads nearer to an end of the calendar, so the steps allowed are never
+-- used up.
 use Prim.Native.Nat.{ℕ, _+_, _-_, _≤_, _<_}
 use mathlib.Core.Path.{_≡_, refl, sym, _∙_, ap}
 use mathlib.Core.Bool.{Bool, true, false}
@@ -17,13 +18,15 @@ use Rattle.time_period.specs.declared.steps.TimePeriod.{TimePeriod}
 use Rattle.icma.specs.declared.walks.Walked.{Walked}
 use Rattle.time_period.proofs.steps.Steps.{step-leads}
 
--- what a turn leads to: a date of the calendar, nearer to the end by φ, and at most one more in the count
+-- what a turn leads to: a date of the calendar, nearer to the end by φ, and at most one more in the
+-- count
 pub record Turned (φ : Date → ℕ) (w v : Walked) : Type 0 where
   pub dated : isDate (v .at) ≡ true
   pub nearer : φ (v .at) < φ (w .at)
   pub counted : v .count ≤ w .count + 1
 
--- where a walk ends: a date of the calendar, with no more to go, and no more counted than steps were made
+-- where a walk ends: a date of the calendar, with no more to go, and no more counted than steps
+-- were made
 pub record Ended (φ : Date → ℕ) (more : Date → Bool) (w v : Walked) : Type 0 where
   pub dated : isDate (v .at) ≡ true
   pub there : more (v .at) ≡ false
@@ -112,7 +115,8 @@ last-turn more turn φ leads =
     on w x v d h t (none-made q) = made w d h (t ∙ ap given q)
     on w x v d h t (made y i j l) = made y i j l
 
--- what a walk adds up: where each turn keeps m times the count and ψ from rising together, so does the walk
+-- what a walk adds up: where each turn keeps m times the count and ψ from rising together, so does
+-- the walk
 pub walk-keeps : (more : Date → Bool) (turn : Walked → Outcome Walked) (ψ : Walked → ℕ) → ((w v : Walked) → isDate (w .at) ≡ true → turn w ≡ given v → (isDate (v .at) ≡ true) × (ψ v ≤ ψ w)) → (k : ℕ) (w v : Walked) → isDate (w .at) ≡ true → walk k more turn w ≡ given v → ψ v ≤ ψ w
 walk-keeps more turn ψ keeps =
     walk-all (λ w. more (w .at)) turn (λ w. isDate (w .at) ≡ true) (λ w v. ψ v ≤ ψ w)

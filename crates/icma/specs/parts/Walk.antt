@@ -1,4 +1,5 @@
--- Act/Act ICMA walks from the roll date: the whole periods and the broken parts between start and end. The walks are those of `icma`.
+-- Act/Act ICMA walks from the roll date: the whole periods and the broken parts between start and
+-- end. The walks are those of `icma`.
 use Prim.Native.Nat.{ℕ, _+_, _-_}
 use lib.IntN.{pos, _-ℤ_}
 use Rattle.outcome.specs.Outcome.{Outcome, given, refused, andThen, pick}
@@ -27,7 +28,8 @@ abbrev pub partsOutcome : PartsAnswer → Outcome Parts
 partsOutcome (parts-answer.Parts p) = given p
 partsOutcome (parts-answer.Refused n) = refused n
 
--- the walks from the roll date (`baseFrom`) ended before start: the days, over the length of the period from there
+-- the walks from the roll date (`baseFrom`) ended before start: the days, over the length of the
+-- period from there
 unfoldable pub shortParts : TimePeriod → Date → Date → Date → Outcome Parts
 shortParts p start end base = andThen (step p base) (λ u. given (Short (dayNumber end - dayNumber start) (dayNumber u - dayNumber base)))
 
@@ -45,7 +47,8 @@ lastPart q end e =
     (andThen (step q e) (λ s. given (Part (pos (dayNumber end) -ℤ pos (dayNumber s)) (dayNumber e - dayNumber s))))
     (given Nothing)
 
--- otherwise it is the base: go back from it to start, then forward from it to end; both counts are added
+-- otherwise it is the base: go back from it to start, then forward from it to end; both counts are
+-- added
 unfoldable pub toLast : TimePeriod → Date → Broken → ℕ → Walked → Outcome Parts
 toLast q end first count e = andThen (lastPart q end (e .at)) (λ last. given (Long first last (count + e .count)))
 

@@ -1,4 +1,5 @@
--- A walk by a period: from a date on, or back, step by step to a limit, counting the dates it reaches.
+-- A walk by a period: from a date on, or back, step by step to a limit, counting the dates it
+-- reaches.
 use Prim.Native.Nat.{ℕ, _+_}
 use mathlib.Core.Bool.{Bool}
 use Rattle.outcome.specs.Outcome.{Outcome, given, refused, andThen, pick}
@@ -16,7 +17,8 @@ abbrev pub walkOutcome : WalkAnswer → Outcome Walked
 walkOutcome (walk-answer.Walked w) = given w
 walkOutcome (walk-answer.Refused n) = refused n
 
--- one step from a date, by a period or by the same period negated; a date outside the range stops it with 1
+-- one step from a date, by a period or by the same period negated; a date outside the range stops
+-- it with 1
 abbrev pub step : TimePeriod → Date → Outcome Date
 step p t = stepped p absent t
 

@@ -53,7 +53,8 @@ module _ (n : Note) (a : Accepted n) where
   spanned Nothing d = omega arith
 
   module _ (position : Float) (table : List ℕ) where
-    -- what is owed on a date of the calendar makes the turn where it is paid; a refusal and the end make theirs
+    -- what is owed on a date of the calendar makes the turn where it is paid; a refusal and the end
+    -- make theirs
     abbrev pub Makes : Due → Payment → Type 0
     Makes due (owed.Pay t x next) = (isDate t ≡ true) × ((r : Step) → r ≡ stepOf (paid n table t x) next → Turned n position table due r)
     Makes due (owed.Stop k) = Turned n position table due (Stop k)

@@ -98,7 +98,8 @@ module _ (n : Note) (position : Float) (table : List ℕ) where
       ap (λ (b : Bool). elim b as (λ x. Outcome (List CashFlow)) [ true ↦ andThen (stepped (n .period) absent t) (λ next. followed (couponFlow n position table t next t) (laterFlows k n position table next)) | false ↦ followed (paid n table (n .maturity) (nominalOf position n)) (given []) ]) h
 
   module _ (a : Accepted n) where
-    -- with as many steps as there are days left, how many are allowed does not matter: they are never used up
+    -- with as many steps as there are days left, how many are allowed does not matter: they are
+    -- never used up
     pub enough : (j k : ℕ) (t : Date) → isDate t ≡ true → 3652059 - dayNumber t < j → 3652059 - dayNumber t < k → laterFlows j n position table t ≡ laterFlows k n position table t
     unfolding nextFlows
     enough zero k t d h l = absurd (omega arith)
@@ -209,7 +210,8 @@ module _ (n : Note) (position : Float) (table : List ℕ) (a : Accepted n) where
           let q : _≡_ {A = List CashFlow} [] (f .1) = given-injective (f .3) in
           in-front n (f .0) [] l k (paid-of (n .maturity) (nominalOf position n) (f .0) (a .matures) (f .2)) (omega arith, omega arith) (ap (λ (m : List CashFlow). f .0 ∷ m) q ∙ f .4)
 
-  -- the flows of an accepted note are of its currency and on dates of the calendar, and no more than the calendar's days and one
+  -- the flows of an accepted note are of its currency and on dates of the calendar, and no more
+  -- than the calendar's days and one
   pub flows-of : (l : List CashFlow) → noteFlows n position table ≡ given l → Every (OfNote n) l × (length l ≤ 3652060)
   unfolding noteFlows
   flows-of l e =

@@ -18,7 +18,8 @@ use Rattle.bond.specs.declared.note.Note.{Note}
 unfoldable pub paid : Note → List ℕ → Date → Float → Outcome CashFlow
 paid n table t x = andThen (adjusted (n .«business_day_rule») t table) (λ u. given (record { date = u; currency = n .currency; amount = x }))
 
--- a coupon from start to end: its fraction, of unadjusted dates, the note's period and a roll date; then its payment date
+-- a coupon from start to end: its fraction, of unadjusted dates, the note's period and a roll date;
+-- then its payment date
 unfoldable pub couponFlow : Note → Float → List ℕ → Date → Date → Date → Outcome CashFlow
 couponFlow n position table start end roll =
     andThen (yearFraction fractionsInF64 (n .«day_count_convention») start end (rolledFrom roll (n .period)))
@@ -28,7 +29,8 @@ couponFlow n position table start end roll =
 abbrev pub followed : Outcome CashFlow → Outcome (List CashFlow) → Outcome (List CashFlow)
 followed flow others = andThen flow (λ x. andThen others (λ l. given (x ∷ l)))
 
--- behind a coupon: while its end is before maturity, the next one, which rolls from its start; then the nominal at adjusted maturity.
+-- behind a coupon: while its end is before maturity, the next one, which rolls from its start; then
+-- the nominal at adjusted maturity.
 -- Each ends later than the one before it, and the calendar has 3652059 days
 unfoldable pub laterFlows : ℕ → Note → Float → List ℕ → Date → Outcome (List CashFlow)
 laterFlows zero n position table end = refused 1

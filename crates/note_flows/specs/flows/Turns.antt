@@ -1,4 +1,5 @@
--- What the inner functions hand each other, one flow at a time; no promise of an entry point rests on this.
+-- What the inner functions hand each other, one flow at a time; no promise of an entry point rests
+-- on this.
 use Prim.Native.Nat.{ℕ, _-_, _≤_, _<_}
 use mathlib.Core.Path.{_≡_}
 use mathlib.Core.List.{List, []}
@@ -50,6 +51,7 @@ Turned n position table due (Pay day x next) = Pays n position table due x next 
 Turned n position table due (Stop k) = flowsDue n position table due ≡ refused k
 Turned n position table due End = flowsDue n position table due ≡ given []
 
--- where all flows are given and both lists have a place for each, the lists hold their days and amounts
+-- where all flows are given and both lists have a place for each, the lists hold their days and
+-- amounts
 pub record Kept (n : Note) (position : Float) (table days : List ℕ) (amounts : List Float) (days′ : List ℕ) (amounts′ : List Float) : Type 0 where
   pub hold : (m : ℕ) → counted (noteFlows n position table) ≡ given m → m ≤ length days → m ≤ length amounts → (days′ ≡ roomAfter flowDay (noteFlows n position table) days) × (amounts′ ≡ roomAfter amountOf (noteFlows n position table) amounts)

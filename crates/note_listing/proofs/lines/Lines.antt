@@ -103,7 +103,8 @@ line-fitting f places at h = by (flowShown f) refl
           room = omega (arith, length-append (flowText f) (10 ∷ []));
         }
 
--- the rest of the lines has room from a place on, and if it were written there now, all would be as it shall be
+-- the rest of the lines has room from a place on, and if it were written there now, all would be as
+-- it shall be
 pub record Writing (fs : List CashFlow) (old now : List ℕ) (at : ℕ) (z : List ℕ) : Type 0 where
   pub same-length : length now ≡ length old
   pub fits : LineFits (linesOf fs) (length now) at

@@ -1,4 +1,5 @@
--- No second answer and no other bytes satisfy the promise; what is written stands in the bytes; and 662,000 bytes are always enough.
+-- No second answer and no other bytes satisfy the promise; what is written stands in the bytes; and
+-- 662,000 bytes are always enough.
 use mathlib.Core.Path.{_≡_, refl, sym, ap, subst, _∙_}
 use mathlib.Core.List.{List}
 use Prim.Native.Nat.{ℕ, _≤_}

@@ -36,6 +36,7 @@ abbrev pub LineFits : Outcome (List ℕ) → ℕ → ℕ → Type 0
 LineFits (given t) places at = at + length t ≤ places
 LineFits (refused n) places at = ⊥
 
--- the lines, or the refusal, written at the start of lent bytes, and not longer than 2,000 lines of 331 bytes
+-- the lines, or the refusal, written at the start of lent bytes, and not longer than 2,000 lines of
+-- 331 bytes
 abbrev pub LinesWritten : Outcome (List ℕ) → List ℕ → List ℕ → LengthAnswer → Type 0
 LinesWritten o d e r = (Written d e (answerText o) (lengthOutcome r)) × (length (answerText o) ≤ 662000)

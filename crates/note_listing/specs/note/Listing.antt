@@ -21,6 +21,7 @@ noteLines p = andThen (fittedIn (p .note) one (p .days) 2000) linesOf
 unfoldable pub listing : List ℕ → List ℕ
 listing s = answerText (andThen (unpacked s) noteLines)
 
--- what is promised of the bytes s, the old and the new bytes d and e, and the answer r: all of the listing, or 16
+-- what is promised of the bytes s, the old and the new bytes d and e, and the answer r: all of the
+-- listing, or 16
 abbrev pub ListPromise : List ℕ → List ℕ → List ℕ → LengthAnswer → Type 0
 ListPromise s d e r = Written d e (listing s) (lengthOutcome r)

@@ -1,4 +1,5 @@
--- Laws of the digits of a number: how many there are, what they are worth, and how they fall into parts.
+-- Laws of the digits of a number: how many there are, what they are worth, and how they fall into
+-- parts.
 use Prim.Native.Nat.{ℕ, zero, suc, _+_, _-_, _*_, _/_, _%_, _^_, _≤_, _<_, max}
 use mathlib.Core.Path.{_≡_, refl, sym, ap, _∙_}
 use mathlib.Core.Bool.{true}

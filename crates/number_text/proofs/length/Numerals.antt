@@ -1,4 +1,5 @@
--- Digits to any base b, with any byte z for zero: how many there are, what they are worth, and each from the other.
+-- Digits to any base b, with any byte z for zero: how many there are, what they are worth, and each
+-- from the other.
 use Prim.Native.Nat.{ℕ, zero, suc, _+_, _-_, _*_, _/_, _%_, _^_, _≤_, _<_}
 use mathlib.Core.Path.{_≡_, refl, sym, ap, _∙_}
 use mathlib.Core.List.{List, [], _∷_, _++_, append-assoc, append-nil}

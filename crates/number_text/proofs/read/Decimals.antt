@@ -1,4 +1,5 @@
--- Laws of reading: the digits that are left to read behind a number, and the text with a sign before it.
+-- Laws of reading: the digits that are left to read behind a number, and the text with a sign
+-- before it.
 use Prim.Native.Nat.{ℕ, _+_, _-_, _*_, _≤_, _<_}
 use mathlib.Core.Path.{_≡_, refl, sym, _∙_}
 use mathlib.Core.Bool.{Bool, true, false}

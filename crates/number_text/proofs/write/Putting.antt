@@ -1,4 +1,5 @@
--- Laws of `put`: text written into a list, one text after another, and the loops that write from a text's end to its start.
+-- Laws of `put`: text written into a list, one text after another, and the loops that write from a
+-- text's end to its start.
 use Prim.Native.Nat.{ℕ, zero, suc, _+_, _-_, _/_, _%_, _≤_, _<_}
 use mathlib.Core.Path.{_≡_, refl, sym, ap, _∙_}
 use mathlib.Core.List.{List, [], _∷_, _++_, append-assoc}
@@ -78,7 +79,8 @@ wrote-one d at v h = (put-one d at v h, refl)
 pub wrote-none : (d : List ℕ) (at : ℕ) → Wrote d d at [] at
 wrote-none d at = (sym (put-none d at), sym (add-zero at))
 
--- ---- from the end to the start: to store the last byte first and then write the others is to write them all
+-- ---- from the end to the start: to store the last byte first and then write the others is to
+-- write them all
 
 pub put-last : (d : List ℕ) (at : ℕ) (xs : List ℕ) (v : ℕ) → at + length xs < length d → put (set d (at + length xs) v) at xs ≡ put d at (xs ++ (v ∷ []))
 unfolding put

@@ -1,4 +1,5 @@
--- Laws of a text that may be refused: what answers to its length and to writing it there are, and what a refusal keeps.
+-- Laws of a text that may be refused: what answers to its length and to writing it there are, and
+-- what a refusal keeps.
 use Prim.Native.Nat.{ℕ, _≤_, _<_}
 use mathlib.Core.Path.{_≡_, refl}
 use mathlib.Core.Bool.{Bool, true, false}

@@ -1,4 +1,5 @@
--- Laws of writers at the start of lent bytes: there is room and all is written, or there is not and nothing is.
+-- Laws of writers at the start of lent bytes: there is room and all is written, or there is not and
+-- nothing is.
 use Prim.Native.Nat.{ℕ, _+_, _-_, _≤_, _<_, max}
 use mathlib.Core.Path.{_≡_, refl, sym, ap, _∙_}
 use mathlib.Core.List.{List, _++_}

@@ -1,4 +1,5 @@
--- Numbers as text: which bytes are a number, and which number they are. A refusal's number n is the caller's: 4 in a
+-- Numbers as text: which bytes are a number, and which number they are. A refusal's number n is the
+-- caller's: 4 in a
 -- period, 6 in a coupon date.
 use Prim.Native.Nat.{ℕ, _+_, _-_, _*_}
 use mathlib.Core.Path.{_≡_}

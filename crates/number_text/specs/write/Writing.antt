@@ -1,4 +1,5 @@
--- Text in lent bytes: what stands in the bytes once it is written. The text of a number is that of `number_text`.
+-- Text in lent bytes: what stands in the bytes once it is written. The text of a number is that of
+-- `number_text`.
 use Prim.Native.Nat.{ℕ, _+_, _-_}
 use mathlib.Core.Path.{_≡_}
 use mathlib.Core.List.{List, _++_}
@@ -39,12 +40,14 @@ abbrev pub lengthOutcome : LengthAnswer → Outcome ℕ
 lengthOutcome (Length k) = given k
 lengthOutcome (Refused n) = refused n
 
--- a text that may be refused: the bytes d once it is written at their start, all the old ones where it was refused
+-- a text that may be refused: the bytes d once it is written at their start, all the old ones where
+-- it was refused
 abbrev pub shownBytes : List ℕ → Outcome (List ℕ) → List ℕ
 shownBytes d (given xs) = writtenBytes d xs
 shownBytes d (refused n) = d
 
--- what its writer promises of the old bytes d, the new bytes e and its answer r: its refusal, then 16, then the text's length
+-- what its writer promises of the old bytes d, the new bytes e and its answer r: its refusal, then
+-- 16, then the text's length
 abbrev pub Writes : Outcome (List ℕ) → List ℕ → List ℕ → LengthAnswer → Type 0
 Writes o d e r = (lengthOutcome r ≡ andThen o (writtenLength d)) × (e ≡ shownBytes d o)
 

@@ -83,7 +83,8 @@ values =
       overflow = refl;
     }
 
--- 15 for the rate, then flow by flow 15, 17 and the fraction's refusals; the first refusal ends a stream
+-- 15 for the rate, then flow by flow 15, 17 and the fraction's refusals; the first refusal ends a
+-- stream
 pub record Order : Type 0 where
   pub rate-first : discountedFlow (flat nan conv.ActActICMA) (on 2021 2 29) (flow (on 2021 2 29) nan small) ≡ refused 15
   pub rate-above-one : discountFactor (flat (fin false 3 (negsuc 0)) conv.Act365) (on 2021 1 1) (on 2022 1 1) ≡ refused 15

@@ -1,4 +1,5 @@
--- What the inner functions of a listed stream hand each other, so that no date is taken where days are enough; no promise of an entry point rests on this.
+-- What the inner functions of a listed stream hand each other, so that no date is taken where days
+-- are enough; no promise of an entry point rests on this.
 use Prim.Native.Nat.{ℕ}
 use lib.Dec.{leb}
 use Rattle.outcome.specs.Outcome.{both, pick}
@@ -18,7 +19,8 @@ yearDays conv.D30_360 = 0
 yearDays conv.D30E360 = 0
 yearDays conv.ActActICMA = 0
 
--- the day from which on days are enough: today's, where the rule counts days and the rate's currency and today are in order; else the day after the calendar's last
+-- the day from which on days are enough: today's, where the rule counts days and the rate's
+-- currency and today are in order; else the day after the calendar's last
 unfoldable pub countedFrom : FlatRate → Date → ℕ
 countedFrom rate today =
     pick (both (leb 1 (yearDays (rate .«day_count_conv»))) (both (isCurrency (rate .currency)) (isDate today))) (dayNumber today) 3652060

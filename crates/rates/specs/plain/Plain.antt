@@ -14,14 +14,16 @@ use Rattle.cash_flow.specs.declared.flow.CashFlow.{CashFlow}
 use Rattle.rates.specs.simple.Rates.{StreamPromise}
 use Rattle.rates.specs.declared.simple.FlatRate.{FlatRate}
 
--- the currency whose bytes are first * 65536 + second * 256 + third; from 16777216 on, one that is malformed
+-- the currency whose bytes are first * 65536 + second * 256 + third; from 16777216 on, one that is
+-- malformed
 unfoldable pub currencyAt : ℕ → Currency
 currencyAt n =
     pick (ltb n 16777216)
     (record { first = n / 65536; second = n / 256 % 256; third = n % 256 })
     (record { first = 0; second = 0; third = 0 })
 
--- the flow at place i; a day or a currency that its list does not have is 0, so it is refused 1 or 17
+-- the flow at place i; a day or a currency that its list does not have is 0, so it is refused 1 or
+-- 17
 unfoldable pub flowAt : List ℕ → List ℕ → List Float → ℕ → CashFlow
 flowAt days currencies amounts i =
     record { date = dateOn (getD days i 0); currency = currencyAt (getD currencies i 0); amount = getD amounts i nan }

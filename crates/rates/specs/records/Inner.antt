@@ -1,4 +1,5 @@
--- What the inner functions of a stream of records hand each other; no promise of an entry point rests on this.
+-- What the inner functions of a stream of records hand each other; no promise of an entry point
+-- rests on this.
 use lib.IntN.{pos}
 use lib.Ieee.{Float}
 use Rattle.outcome.specs.Outcome.{Outcome, given, unless, andThen}

@@ -27,7 +27,8 @@ abbrev pub factorOutcome : FactorAnswer → Outcome Float
 factorOutcome (factor-answer.Factor x) = given x
 factorOutcome (factor-answer.Refused n) = refused n
 
--- the fraction from today to the payment date; no roll date and no period are given, so ICMA is refused 10
+-- the fraction from today to the payment date; no roll date and no period are given, so ICMA is
+-- refused 10
 unfoldable pub fractionTo : DayCountConv → Date → Date → Outcome Float
 fractionTo rule today t = yearFraction fractionsInF64 rule today t noTerms
 

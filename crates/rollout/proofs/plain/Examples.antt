@@ -61,7 +61,8 @@ pub room : Room
 unfolding dayNumber daysBefore yearLength monthLength lengthIn leap
 room = record { answer = rw the-listing; days = rw the-listing; amounts = rw the-listing; too-few-days = rw the-listing; too-few-amounts = rw the-listing }
 
--- a refusal beyond the room comes before 16: 10D from 9999-12-15 leaves the calendar after one more coupon, and no place is lent
+-- a refusal beyond the room comes before 16: 10D from 9999-12-15 leaves the calendar after one more
+-- coupon, and no place is lent
 abbrev pub late : Note
 late =
     record {

@@ -1,4 +1,5 @@
--- No second outcome satisfies the entry point's promise: neither another answer, nor other lists; and a refusal's number is never 0.
+-- No second outcome satisfies the entry point's promise: neither another answer, nor other lists;
+-- and a refusal's number is never 0.
 use Prim.Native.Nat.{ℕ, zero, suc}
 use mathlib.Core.Path.{_≡_, sym, _∙_}
 use mathlib.Core.List.{List, []}

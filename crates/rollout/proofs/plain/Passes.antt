@@ -1,4 +1,5 @@
--- What the first pass found is the answer; what it kept, or wrote over the lent room, is what the lists hold.
+-- What the first pass found is the answer; what it kept, or wrote over the lent room, is what the
+-- lists hold.
 use Prim.Native.Nat.{ℕ, _≤_, _<_, min}
 use mathlib.Core.Path.{_≡_, sym, _∙_, ap}
 use mathlib.Core.Bool.{Bool}

@@ -17,7 +17,8 @@ records = flow (on 2021 7 15) twenty ∷ flow (on 2022 1 17) twenty ∷ flow (on
 abbrev before : CashFlow
 before = flow (on 1999 12 31) one
 
--- four places: three are written, and the fourth keeps its contents; two are too few, and keep theirs
+-- four places: three are written, and the fourth keeps its contents; two are too few, and keep
+-- theirs
 pub record Room : Type 0 where
   pub just-enough : fittedIn exampleNote one [] 3 ≡ given records
   pub answer : counted (fittedIn exampleNote one [] 4) ≡ given 3

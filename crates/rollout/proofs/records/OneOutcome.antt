@@ -1,4 +1,5 @@
--- No second outcome satisfies the entry point's promise: neither another answer, nor other room. A refusal's number is never 0: `rollout-numbered` of `rollout`.
+-- No second outcome satisfies the entry point's promise: neither another answer, nor other room. A
+-- refusal's number is never 0: `rollout-numbered` of `rollout`.
 use Prim.Native.Nat.{ℕ}
 use mathlib.Core.Path.{_≡_, sym, _∙_}
 use mathlib.Core.List.{List}

@@ -1,4 +1,5 @@
--- A rollout: the flows of a note that passes its checks (`cashFlows` of `note_flows`), and the room for them.
+-- A rollout: the flows of a note that passes its checks (`cashFlows` of `note_flows`), and the room
+-- for them.
 use Prim.Native.Nat.{ℕ, min}
 use mathlib.Core.Path.{_≡_}
 use mathlib.Core.List.{List}

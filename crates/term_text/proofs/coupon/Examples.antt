@@ -1,4 +1,5 @@
--- Texts of coupon dates that the paper and the lists of slips name, as theorems about the definitions.
+-- Texts of coupon dates that the paper and the lists of slips name, as theorems about the
+-- definitions.
 use mathlib.Core.Path.{_≡_, refl}
 use mathlib.Core.List.{[], _∷_}
 use Rattle.outcome.specs.Lists.{allOf}

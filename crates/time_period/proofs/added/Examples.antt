@@ -1,4 +1,5 @@
--- Fifteen months back, the refusals in their order, and business days, as theorems about the definitions; the desk card's steps stand in `desk_card`.
+-- Fifteen months back, the refusals in their order, and business days, as theorems about the
+-- definitions; the desk card's steps stand in `desk_card`.
 use Prim.Native.Nat.{ℕ}
 use mathlib.Core.Path.{_≡_, refl, ap, _∙_}
 use mathlib.Core.List.{List, [], _∷_}
@@ -62,7 +63,8 @@ refusals =
       least-before-bad-table = refl;
     }
 
--- from Saturday 2021-07-31: no business day stays there, one leads to Monday, one back to Friday, and a listed Monday is passed over
+-- from Saturday 2021-07-31: no business day stays there, one leads to Monday, one back to Friday,
+-- and a listed Monday is passed over
 pub record BusinessDays : Type 0 where
   pub none : addTo (of (pos 0) BusinessDaily) (table []) (on 2021 7 31) ≡ given (on 2021 7 31)
   pub one : addTo (of (pos 1) BusinessDaily) (table []) (on 2021 7 31) ≡ given (on 2021 8 2)

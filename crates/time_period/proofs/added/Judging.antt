@@ -1,4 +1,5 @@
--- The order of the refusals: how each check is answered where it fails, and what is left where it holds.
+-- The order of the refusals: how each check is answered where it fails, and what is left where it
+-- holds.
 use Prim.Native.Nat.{ℕ}
 use mathlib.Core.Path.{_≡_, refl}
 use mathlib.Core.Bool.{true, false, not}

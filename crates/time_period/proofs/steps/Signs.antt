@@ -1,4 +1,5 @@
--- Signed 32-bit numbers as the code has them: negated, seven times as many, and their sign and magnitude apart.
+-- Signed 32-bit numbers as the code has them: negated, seven times as many, and their sign and
+-- magnitude apart.
 use Prim.Native.Nat.{ℕ, zero, suc, _+_, _-_, _*_, _^_, _≤_, _<_}
 use mathlib.Core.Path.{_≡_, refl, sym, _∙_, ap, subst}
 use mathlib.Core.Bool.{true, false, false≢true, true≢false}

@@ -1,4 +1,5 @@
--- Where a step leads: to a date of the calendar, later for a number above zero and earlier for one below; and what each unit keeps.
+-- Where a step leads: to a date of the calendar, later for a number above zero and earlier for one
+-- below; and what each unit keeps.
 use Prim.Native.Nat.{ℕ, suc, _-_, _≤_, _<_}
 use mathlib.Core.Path.{_≡_, sym, _∙_, ap}
 use mathlib.Core.Bool.{true, false≢true}
@@ -149,7 +150,8 @@ module _ (n : ℤ) (t u : Date) where
   unit-dated Monthly h d e = months-step n t u d e .dated
   unit-dated Annual h d e = years-step n t u d e .dated
 
--- what a step from a date of the calendar leads to, whatever the unit and the table; and by the unit
+-- what a step from a date of the calendar leads to, whatever the unit and the table; and by the
+-- unit
 pub record Stepped (p : TimePeriod) (h : Holidays) (t u : Date) : Type 0 where
   pub dated : IsDate u
   pub later : ltZ (pos 0) (p .num) ≡ true → dayNumber t < dayNumber u

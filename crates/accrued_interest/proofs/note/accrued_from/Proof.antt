@@ -1,4 +1,5 @@
--- `accrued_interest::accrued_from` meets its contract: the walk's refusal, or what is accrued in the period where it stops.
+-- `accrued_interest::accrued_from` meets its contract: the walk's refusal, or what is accrued in
+-- the period where it stops.
 use mathlib.Core.Path.{_≡_, sym, _∙_, ap}
 use borrow.Author.Needs.{needs}
 use Rattle.outcome.specs.Outcome.{Outcome, given, andThen}

@@ -1,4 +1,5 @@
--- `accrued_interest::accrued_interest` meets its contract: the note's checks, and then what is accrued.
+-- `accrued_interest::accrued_interest` meets its contract: the note's checks, and then what is
+-- accrued.
 use mathlib.Core.Path.{_≡_, sym, _∙_, ap}
 use mathlib.Core.Bool.{true}
 use lib.Dec.{T}

@@ -1,4 +1,5 @@
--- `accrued_interest::accrued_on` meets its contract: 1 for today, the 0 before issue, and then the walk from the first period.
+-- `accrued_interest::accrued_on` meets its contract: 1 for today, the 0 before issue, and then the
+-- walk from the first period.
 use mathlib.Core.Path.{_≡_, sym, _∙_, ap}
 use mathlib.Core.Bool.{true, false}
 use borrow.Author.Needs.{needs}

@@ -1,4 +1,5 @@
--- `accrued_interest::next_end` meets its contract: a step of months is the step that its unit names.
+-- `accrued_interest::next_end` meets its contract: a step of months is the step that its unit
+-- names.
 use mathlib.Core.Path.{sym, _∙_, ap}
 use lib.IntN.{ℤ}
 use mir.Facts.{toZ-ofZ}

@@ -1,4 +1,5 @@
--- `accrued_interest::period_holding` meets its contract: each turn leaves the same walk to be made, and leads nearer to the calendar's end.
+-- `accrued_interest::period_holding` meets its contract: each turn leaves the same walk to be made,
+-- and leads nearer to the calendar's end.
 use mathlib.Core.Path.{_≡_, refl, sym, _∙_, ap}
 use mathlib.Core.Bool.{true}
 use borrow.Author.Needs.{needs}

@@ -1,4 +1,5 @@
--- `accrued_interest::fraction` meets its contract: the dates are judged, and the roll date is the start.
+-- `accrued_interest::fraction` meets its contract: the dates are judged, and the roll date is the
+-- start.
 use mathlib.Core.Path.{sym, _∙_}
 use borrow.Author.Needs.{needs}
 use Rattle.day_count_conv.specs.conventions.Conventions.{fractionsInF64}

@@ -1,4 +1,5 @@
--- `bond::is_coupon_rate` meets its contract: a NaN differs from itself, the bits say the sign, and what is left is compared.
+-- `bond::is_coupon_rate` meets its contract: a NaN differs from itself, the bits say the sign, and
+-- what is left is compared.
 use borrow.Author.Needs.{needs}
 use Rattle.outcome.proofs.Numbers.{not-nan}
 use Rattle.bond.proofs.limits.Limits.{nan-no-rate, rate-high, rate-low}

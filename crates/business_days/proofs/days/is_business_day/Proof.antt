@@ -1,4 +1,5 @@
--- `business_days::is_business_day` meets its contract: the day and the table are judged in the order of the refusals, and then the question is put.
+-- `business_days::is_business_day` meets its contract: the day and the table are judged in the
+-- order of the refusals, and then the question is put.
 use mathlib.Core.Path.{sym, _∙_, ap}
 use borrow.Author.Tests.{not-true, not-false}
 use borrow.Author.Needs.{needs}

@@ -1,4 +1,5 @@
--- `business_days::is_ascending` meets its contract: what was good so far, the last day and what is left of the table decide. The measure is what is left of its length.
+-- `business_days::is_ascending` meets its contract: what was good so far, the last day and what is
+-- left of the table decide. The measure is what is left of its length.
 use Prim.Native.Nat.{_+_, _-_, _≤_, zero-le}
 use mathlib.Core.Path.{_≡_, refl}
 use mathlib.Core.Logic.{⊎-elim}

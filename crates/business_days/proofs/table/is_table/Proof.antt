@@ -1,4 +1,5 @@
--- `business_days::is_table` meets its contract: a short table is one where a day, whichever, has a place in it; of another the limit is tested before the order.
+-- `business_days::is_table` meets its contract: a short table is one where a day, whichever, has a
+-- place in it; of another the limit is tested before the order.
 use Prim.Native.Nat.{_≤_, _<_}
 use mathlib.Core.Path.{_≡_, sym, subst}
 use mathlib.Core.Bool.{true, false}

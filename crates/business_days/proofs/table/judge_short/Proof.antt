@@ -1,4 +1,6 @@
--- `business_days::judge_short` meets its contract: that nothing was wrong so far, the last day and what is left of the table decide, and what is counted so far and what is left are all the days before. The measure is what is left of the table's length.
+-- `business_days::judge_short` meets its contract: that nothing was wrong so far, the last day and
+-- what is left of the table decide, and what is counted so far and what is left are all the days
+-- before. The measure is what is left of the table's length.
 use Prim.Native.Nat.{_+_, _-_, _≤_, zero-le}
 use mathlib.Core.Path.{_≡_, refl, sym, _∙_, subst}
 use mathlib.Core.Bool.{true}

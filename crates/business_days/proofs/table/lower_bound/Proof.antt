@@ -1,4 +1,5 @@
--- `business_days::lower_bound` meets its contract: the place lies between two bounds, and each turn halves what is between. The measure is their distance.
+-- `business_days::lower_bound` meets its contract: the place lies between two bounds, and each turn
+-- halves what is between. The measure is their distance.
 use Prim.Native.Nat.{_-_}
 use native.Mathlib.Omega.{arith}
 use Rattle.business_days.proofs.table.Places.{Bracket, bracket-whole, bracket-up, bracket-down, bracket-ends}

@@ -1,4 +1,5 @@
--- `business_days::place_in` meets its contract: a short table is judged and searched at once, and another is judged first.
+-- `business_days::place_in` meets its contract: a short table is judged and searched at once, and
+-- another is judged first.
 use mathlib.Core.Path.{_≡_, sym, _∙_}
 use mathlib.Core.Bool.{true}
 use native.Mathlib.Omega.{arith}

@@ -1,4 +1,5 @@
--- `business_days::business_at` meets its contract: the first holiday from the day on is the day, or the day is not listed.
+-- `business_days::business_at` meets its contract: the first holiday from the day on is the day, or
+-- the day is not listed.
 use mathlib.Core.Path.{sym, _∙_}
 use borrow.Author.Needs.{needs}
 use Rattle.business_days.proofs.walk.Walks.{business-told}

@@ -1,4 +1,5 @@
--- `business_days::earlier_from` meets its contract: the part lent is the table up to the last earlier holiday, and over it the answer is that over the whole.
+-- `business_days::earlier_from` meets its contract: the part lent is the table up to the last
+-- earlier holiday, and over it the answer is that over the whole.
 use mathlib.Core.Path.{sym, _∙_}
 use lib.Seq.{length-take-le}
 use borrow.Author.Needs.{needs}

@@ -1,4 +1,5 @@
--- `business_days::holiday_before` meets its contract: the place before is one less, and at the start stands the 0.
+-- `business_days::holiday_before` meets its contract: the place before is one less, and at the
+-- start stands the 0.
 use Prim.Native.Nat.{ℕ, zero, suc, _-_, _<_, _≤_}
 use mathlib.Core.List.{List, _∷_}
 use mathlib.Core.Path.{_≡_, refl, ap}

@@ -1,4 +1,5 @@
--- `business_days::is_weekend` meets its contract: a part of 2 ^ 32 tells the weekday of a day of the calendar.
+-- `business_days::is_weekend` meets its contract: a part of 2 ^ 32 tells the weekday of a day of
+-- the calendar.
 use borrow.Author.Needs.{needs}
 use Rattle.business_days.proofs.table.Days.{weekend-by-part}
 use Rattle.business_days.proofs.walk.is_weekend.Statement.{statement}

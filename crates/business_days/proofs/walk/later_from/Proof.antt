@@ -1,4 +1,5 @@
--- `business_days::later_from` meets its contract: the part lent is the table from the first later holiday on, and over it the answer is that over the whole.
+-- `business_days::later_from` meets its contract: the part lent is the table from the first later
+-- holiday on, and over it the answer is that over the whole.
 use Prim.Native.Nat.{ℕ}
 use mathlib.Core.List.{List}
 use mathlib.Core.Path.{_∙_, ap}

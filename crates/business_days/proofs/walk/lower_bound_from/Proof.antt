@@ -1,4 +1,5 @@
--- `business_days::lower_bound_from` meets its contract: before the place all is before the day, and the place goes on until it is not.
+-- `business_days::lower_bound_from` meets its contract: before the place all is before the day, and
+-- the place goes on until it is not.
 use Prim.Native.Nat.{_-_}
 use lib.ListN.{length}
 use native.Mathlib.Omega.{arith}

@@ -1,4 +1,5 @@
--- `business_days::next_at` meets its contract: one step on, over the part of the table that begins with the first holiday after the day.
+-- `business_days::next_at` meets its contract: one step on, over the part of the table that begins
+-- with the first holiday after the day.
 use Prim.Native.Nat.{ℕ}
 use mathlib.Core.List.{List}
 use mathlib.Core.Path.{_∙_, ap}

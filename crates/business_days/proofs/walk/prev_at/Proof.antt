@@ -1,4 +1,5 @@
--- `business_days::prev_at` meets its contract: one step back, over the part of the table up to the last holiday before the day.
+-- `business_days::prev_at` meets its contract: one step back, over the part of the table up to the
+-- last holiday before the day.
 use mathlib.Core.Path.{sym, _∙_}
 use lib.Seq.{length-take-le}
 use Rattle.business_days.specs.table.Business.{prevFrom}

@@ -1,4 +1,5 @@
--- `business_days::walk_back` meets its contract: at each day what is left to do is the whole answer. The measure is the day.
+-- `business_days::walk_back` meets its contract: at each day what is left to do is the whole
+-- answer. The measure is the day.
 use mathlib.Core.Path.{sym, _∙_}
 use native.Mathlib.Omega.{arith}
 use Rattle.business_days.proofs.walk.Walks.{Backward, backward-from, backward-done, backward-over, backward-inside, backward-holiday, backward-weekend, backward-business}

@@ -1,4 +1,5 @@
--- `business_days::walk_on` meets its contract: at each day what is left to do is the whole answer. The measure is the days left of the calendar.
+-- `business_days::walk_on` meets its contract: at each day what is left to do is the whole answer.
+-- The measure is the days left of the calendar.
 use Prim.Native.Nat.{_-_}
 use mathlib.Core.Path.{sym, _∙_}
 use native.Mathlib.Omega.{arith}

@@ -1,4 +1,5 @@
--- `c_values::hand_period` meets its contract: the number and the code of the period that is given, or the refusal.
+-- `c_values::hand_period` meets its contract: the number and the code of the period that is given,
+-- or the refusal.
 use mir.Facts.{toZ-ofZ}
 use borrow.Author.Needs.{needs, sfits-of}
 use Rattle.c_values.proofs.answers.hand_period.Statement.{statement}

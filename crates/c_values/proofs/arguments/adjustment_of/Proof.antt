@@ -1,4 +1,5 @@
--- `c_values::adjustment_of` meets its contract: a code above 3 is refused, and the others are the record's.
+-- `c_values::adjustment_of` meets its contract: a code above 3 is refused, and the others are the
+-- record's.
 use borrow.Author.Needs.{needs}
 use borrow.Author.Tests.{lt-ltb, le-ltb, ltb-true, ltb-false}
 use native.Mathlib.Omega.{arith}

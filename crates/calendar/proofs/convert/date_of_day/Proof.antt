@@ -1,4 +1,5 @@
--- `calendar::date_of_day` meets its contract: the year that begins in March, and the month and the day in it.
+-- `calendar::date_of_day` meets its contract: the year that begins in March, and the month and the
+-- day in it.
 use Prim.Native.Nat.{suc, _<_}
 use native.Mathlib.Omega.{arith}
 use borrow.Author.Needs.{needs}

@@ -1,4 +1,5 @@
--- `calendar::day_of_date` meets its contract: a year that begins in March counts its days by one rule.
+-- `calendar::day_of_date` meets its contract: a year that begins in March counts its days by one
+-- rule.
 use mathlib.Core.Logic.{⊎-elim}
 use native.Mathlib.Omega.{arith}
 use Rattle.calendar.proofs.dates.Dates.{IsDate, date-yes, number-to, number-from}

@@ -1,4 +1,5 @@
--- `calendar::from_march` meets its contract: each product and shift is the quotient that it stands for.
+-- `calendar::from_march` meets its contract: each product and shift is the quotient that it stands
+-- for.
 use borrow.Author.Needs.{needs}
 use Rattle.calendar.proofs.convert.March.{hundredth, leap-days, four-hundredth, shifted}
 use Rattle.calendar.proofs.convert.from_march.Statement.{statement}

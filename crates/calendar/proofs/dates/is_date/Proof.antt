@@ -1,4 +1,5 @@
--- `calendar::is_date` meets its contract: each `return` is one of the tests of `isDate`, and every month has 28 days.
+-- `calendar::is_date` meets its contract: each `return` is one of the tests of `isDate`, and every
+-- month has 28 days.
 use mathlib.Core.Path.{sym, ap}
 use native.Mathlib.Omega.{arith}
 use lib.Dec.{leb}

@@ -1,4 +1,5 @@
--- `calendar::days_before_month` meets its contract: a leap year's months from March on begin a day later.
+-- `calendar::days_before_month` meets its contract: a leap year's months from March on begin a day
+-- later.
 use Prim.Native.Nat.{ℕ, _+_}
 use mathlib.Core.Bool.{false}
 use mathlib.Core.Path.{sym, _∙_, ap}

@@ -1,4 +1,5 @@
--- `calendar::first_of_year` meets its contract: the cycles before the year, and its place in its own.
+-- `calendar::first_of_year` meets its contract: the cycles before the year, and its place in its
+-- own.
 use Prim.Native.Nat.{ℕ, suc, _+_, _-_, _*_, _/_, _%_, _≤_}
 use mathlib.Core.Path.{_≡_}
 use native.Mathlib.Omega.{arith}

@@ -1,4 +1,5 @@
--- `calendar::first_of_years` meets its contract: the table is the list of its rule's values, which antt computes.
+-- `calendar::first_of_years` meets its contract: the table is the list of its rule's values, which
+-- antt computes.
 use Prim.Native.Nat.{ℕ, suc, _+_}
 use Rattle.outcome.specs.Lists.{valuesFrom}
 use Rattle.calendar.specs.gregorian.Gregorian.{leap, yearLength, daysBefore, beforeYear}

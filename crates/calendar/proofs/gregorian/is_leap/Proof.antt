@@ -1,4 +1,5 @@
--- `calendar::is_leap` meets its contract: the test that led to each `return` picks its rule of leap years.
+-- `calendar::is_leap` meets its contract: the test that led to each `return` picks its rule of leap
+-- years.
 use Rattle.calendar.proofs.gregorian.Years.{leap-of-25, leap-of-others}
 use Rattle.calendar.proofs.gregorian.is_leap.Statement.{statement}
 use Rattle.calendar.proofs.gregorian.is_leap.Tie as tie

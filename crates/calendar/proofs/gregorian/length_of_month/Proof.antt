@@ -1,4 +1,5 @@
--- `calendar::length_of_month` meets its contract: each arm of the `match` has its numbers, and `_` has none of them.
+-- `calendar::length_of_month` meets its contract: each arm of the `match` has its numbers, and `_`
+-- has none of them.
 use mathlib.Core.Path.{sym, _∙_}
 use borrow.Author.Needs.{needs}
 use Rattle.calendar.proofs.gregorian.Months.{long-first, long-last, short, february, none}

@@ -1,4 +1,5 @@
--- `calendar::length_of_year` meets its contract: year 0 has no days, and every other is a leap year or not.
+-- `calendar::length_of_year` meets its contract: year 0 has no days, and every other is a leap year
+-- or not.
 use mathlib.Core.Path.{sym, _∙_}
 use borrow.Author.Needs.{needs}
 use Rattle.calendar.proofs.gregorian.Months.{no-year, year-length}

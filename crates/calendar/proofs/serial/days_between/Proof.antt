@@ -1,4 +1,5 @@
--- `calendar::days_between` meets its contract: each `return` is one of the tests of `daysBetween`, in its order.
+-- `calendar::days_between` meets its contract: each `return` is one of the tests of `daysBetween`,
+-- in its order.
 use mathlib.Core.Path.{sym, _∙_}
 use borrow.Author.Tests.{le-leb, lt-leb, not-true, not-false}
 use borrow.Author.Needs.{needs}

@@ -1,4 +1,5 @@
--- `cash_flow::is_within` meets its contract: below zero the number negated, else the number itself. Laws of Signs.
+-- `cash_flow::is_within` meets its contract: below zero the number negated, else the number itself.
+-- Laws of Signs.
 use Rattle.cash_flow.proofs.flow.Signs.{below-zero, not-below}
 use Rattle.cash_flow.proofs.flow.is_within.Statement.{statement}
 use Rattle.cash_flow.proofs.flow.is_within.Tie as tie

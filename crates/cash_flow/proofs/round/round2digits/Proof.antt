@@ -1,4 +1,5 @@
--- `cash_flow::round2digits` meets its contract: what is outside the limits is refused, and the product is below 2 ^ 52.
+-- `cash_flow::round2digits` meets its contract: what is outside the limits is refused, and the
+-- product is below 2 ^ 52.
 use mathlib.Core.Path.{_≡_, sym, _∙_}
 use mathlib.Core.Bool.{true}
 use mir.Facts.{toZ-ofZ}

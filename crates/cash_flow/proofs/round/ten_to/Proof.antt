@@ -1,4 +1,5 @@
--- `cash_flow::ten_to` meets its contract: each arm of the `match` has its number of digits, and there is no other.
+-- `cash_flow::ten_to` meets its contract: each arm of the `match` has its number of digits, and
+-- there is no other.
 use Rattle.cash_flow.proofs.round.Limits.{power-is, width-last}
 use lib.Ieee.{ofBits, ofInt}
 use Rattle.cash_flow.proofs.round.ten_to.Statement.{statement}

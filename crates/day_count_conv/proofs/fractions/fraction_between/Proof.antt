@@ -1,4 +1,5 @@
--- `day_count_conv::fraction_between` meets its contract: the checks in their order, and then the rule, of which ICMA lacks its roll date.
+-- `day_count_conv::fraction_between` meets its contract: the checks in their order, and then the
+-- rule, of which ICMA lacks its roll date.
 use mathlib.Core.Bool.{true, not}
 use mathlib.Core.Path.{_≡_, refl, sym, _∙_, ap}
 use lib.Ieee.{Float}

@@ -1,4 +1,5 @@
--- `day_count_conv::year_fraction` meets its contract: the checks in their order, and then the rule; how far off it is follows from its bits.
+-- `day_count_conv::year_fraction` meets its contract: the checks in their order, and then the rule;
+-- how far off it is follows from its bits.
 use mathlib.Core.Path.{_≡_, sym, _∙_}
 use mathlib.Core.Bool.{true}
 use borrow.Author.Tests.{not-true, not-false}

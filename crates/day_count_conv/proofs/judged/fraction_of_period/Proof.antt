@@ -1,4 +1,5 @@
--- `day_count_conv::fraction_of_period` meets its contract: under ICMA one whole period takes no walk, and every other rule has its case elsewhere.
+-- `day_count_conv::fraction_of_period` meets its contract: under ICMA one whole period takes no
+-- walk, and every other rule has its case elsewhere.
 use mathlib.Core.Path.{sym, _∙_, ap}
 use borrow.Author.Needs.{needs}
 use Rattle.day_count_conv.specs.conventions.Conventions.{fractionsInF64, rolledFrom, byRule}

@@ -1,4 +1,5 @@
--- `decimal::multiply` meets its contract: once the digits left are multiplied too, all is right. Laws of Multiplying.
+-- `decimal::multiply` meets its contract: once the digits left are multiplied too, all is right.
+-- Laws of Multiplying.
 use Prim.Native.Nat.{ℕ, _≤_, _*_, _-_}
 use mathlib.Core.Path.{_≡_, refl}
 use native.Mathlib.Omega.{arith}

@@ -1,4 +1,5 @@
--- `decimal::put_scaled` meets its contract: what is left of the factors two is not yet in the digits. Laws of Multiplying.
+-- `decimal::put_scaled` meets its contract: what is left of the factors two is not yet in the
+-- digits. Laws of Multiplying.
 use Prim.Native.Nat.{_≤_, _*_, _-_, _^_}
 use mathlib.Core.Path.{_≡_, _∙_}
 use native.Mathlib.Omega.{arith}

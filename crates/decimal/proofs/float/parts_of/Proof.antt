@@ -1,4 +1,5 @@
--- `decimal::parts_of` meets its contract: a number other than itself is a NaN; any other is the number of its bits.
+-- `decimal::parts_of` meets its contract: a number other than itself is a NaN; any other is the
+-- number of its bits.
 use mathlib.Core.Path.{sym, subst}
 use lib.Ieee.Bits.{ofBits-toBits}
 use lib.Ieee.Compare.{differs-from-itself}

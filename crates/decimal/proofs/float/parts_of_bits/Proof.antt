@@ -1,4 +1,5 @@
--- `decimal::parts_of_bits` meets its contract: each `return` is a case of the exponent's field. Laws of Bits.
+-- `decimal::parts_of_bits` meets its contract: each `return` is a case of the exponent's field.
+-- Laws of Bits.
 use native.Mathlib.Omega.{arith}
 use borrow.Author.Needs.{needs}
 use Rattle.decimal.proofs.float.Bits.{bits-none, bits-few, bits-some, bits-large}

@@ -1,4 +1,5 @@
--- `decimal::write_decimal` meets its contract: room for the whole text, or none of it. Laws of Answers.
+-- `decimal::write_decimal` meets its contract: room for the whole text, or none of it. Laws of
+-- Answers.
 use mathlib.Core.Path.{sym, ap, _∙_}
 use native.Mathlib.Omega.{arith}
 use borrow.Author.Needs.{needs}

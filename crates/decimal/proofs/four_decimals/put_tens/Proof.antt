@@ -1,4 +1,5 @@
--- `decimal::put_tens` meets its contract: the whole part, and the fraction behind it. Laws of Texts.
+-- `decimal::put_tens` meets its contract: the whole part, and the fraction behind it. Laws of
+-- Texts.
 use Prim.Native.Nat.{_/_}
 use native.Mathlib.Omega.{arith}
 use borrow.Author.Needs.{needs}

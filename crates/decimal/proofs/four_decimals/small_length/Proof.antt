@@ -1,4 +1,5 @@
--- `decimal::small_length` meets its contract: the columns are filled, or the digits counted. Laws of Texts.
+-- `decimal::small_length` meets its contract: the columns are filled, or the digits counted. Laws
+-- of Texts.
 use native.Mathlib.Omega.{arith}
 use borrow.Author.Needs.{needs}
 use Rattle.decimal.proofs.four_decimals.Texts.{columns-filled, signed-long, four-long, whole-short}

@@ -1,4 +1,5 @@
--- `fixed_income::flows_after_plain` meets its contract: the first pass answers, and the second writes where it did not refuse.
+-- `fixed_income::flows_after_plain` meets its contract: the first pass answers, and the second
+-- writes where it did not refuse.
 use Prim.Native.Nat.{ℕ}
 use mathlib.Core.Path.{_≡_, sym, ap, _∙_}
 use native.Mathlib.Omega.{arith}

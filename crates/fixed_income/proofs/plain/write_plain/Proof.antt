@@ -1,4 +1,5 @@
--- `fixed_income::write_plain` meets its contract: each turn that finds a later flow writes its three parts.
+-- `fixed_income::write_plain` meets its contract: each turn that finds a later flow writes its
+-- three parts.
 use Prim.Native.Nat.{_-_, _<_}
 use mathlib.Core.Logic.{⊎-elim}
 use native.Mathlib.Omega.{arith}

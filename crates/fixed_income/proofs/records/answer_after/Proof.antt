@@ -1,4 +1,5 @@
--- `fixed_income::answer_after` meets its contract: a walk of its code. A loop reads each record whole, hands it to two small functions, and may return.
+-- `fixed_income::answer_after` meets its contract: a walk of its code. A loop reads each record
+-- whole, hands it to two small functions, and may return.
 use mathlib.Core.Path.{_≡_, refl, sym, ap, _∙_}
 use mathlib.Core.Bool.{Bool, not}
 use Prim.Native.Nat.{ℕ, _<_, _≤_, _^_, _*_, _-_}
@@ -278,7 +279,8 @@ module _ {M : Type 1} (𝓤 : URA M) (H : Heap 𝓤) (A : Atoms 𝓤) (W : Given
         pass1 ! (init ! 26 refl (tt, (tt, (record { fits = gn .0 }, tt)))) $ pass1 ! (init ! 24 refl (LL.lawful D.the-type D′.the-laws 𝓤 H A W .typed date (dates date) gd .0)) $ pass1 ! (init ! 22 refl (tt, record { fits = gp })) $ pass0 ! $
         -- [the locals, 30; the token; what the parameters own]
         move ! (31 ∷ []) $ fsplit ! $ fsplit ! $ move ! (1 ∷ []) $ fsplit ! $ move ! (34 ∷ []) $ split ! $
-        -- [the token; true; res; the fractured borrow; flows' fact; what the others own; the locals from 6]
+        -- [the token; true; res; the fractured borrow; flows' fact; what the others own; the locals
+        -- from 6]
         keep ! (3 ∷ 0 ∷ 2 ∷ 4 ∷ 6 ∷ 7 ∷ 8 ∷ 9 ∷ 10 ∷ 11 ∷ 12 ∷ 13 ∷ 14 ∷ 15 ∷ 16 ∷ 17 ∷ 18 ∷ 19 ∷ 20 ∷ 21 ∷ 22 ∷ 23 ∷ 24 ∷ 25 ∷ 26 ∷ 27 ∷ 28 ∷ 29 ∷ 30 ∷ 31 ∷ 32 ∷ 33 ∷ 34 ∷ 35 ∷ []) $ begins l₀ l₁ l₂ l₃ l₄ l₅ l₆ l₇ l₈ l₉ l₁₀ l₁₁ l₁₂ l₁₃ l₁₄)))))))))))))))
 
 module _ {M : Type 1} (𝓤 : URA M) (H : Heap 𝓤) (A : Atoms 𝓤) (W : Given 𝓤 H A) (mem : Memory → SProp 𝓤) (run : Routine → Fun 𝓤) (𝓣 : Tables 𝓤 H) where

@@ -1,4 +1,5 @@
--- `fixed_income::get_cash_flows_after` meets its contract: a walk of its code. The first pass is a call that answers; a loop reads each record whole and stores it where it is later.
+-- `fixed_income::get_cash_flows_after` meets its contract: a walk of its code. The first pass is a
+-- call that answers; a loop reads each record whole and stores it where it is later.
 use mathlib.Core.Path.{_≡_, refl, sym, ap, subst, _∙_}
 use mathlib.Core.Bool.{Bool, not}
 use Prim.Native.Nat.{ℕ, _<_, _^_, _*_, _-_}
@@ -274,20 +275,24 @@ module _ {M : Type 1} (𝓤 : URA M) (H : Heap 𝓤) (A : Atoms 𝓤) (W : Given
         pass1 ! (init ! 30 refl (tt, (tt, (record { fits = gn .0 }, tt)))) $ pass1 ! (init ! 28 refl (LL.lawful D.the-type D′.the-laws 𝓤 H A W .typed date (dates date) gd .0)) $ pass1 ! (init ! 26 refl (tt, (tt, (record { fits = gm .0 }, tt)))) $ pass0 ! $
         -- [the locals, 34; the tokens; what the parameters own]
         move ! (35 ∷ []) $ fsplit ! $ fsplit ! $ move ! (1 ∷ []) $ fsplit ! $ move ! (3 ∷ []) $ fsplit ! $ drop ! $ fsplit ! $ fsplit ! $ drop ! $ fsplit ! $
-        -- [obs; the borrow of the room; true; res; the fractured borrow; flows' fact; the locals from 6; the tokens]
+        -- [obs; the borrow of the room; true; res; the fractured borrow; flows' fact; the locals
+        -- from 6; the tokens]
         move ! (40 ∷ []) $ split ! $ move ! (1 ∷ []) $ split ! $
-        -- [the room's token; true; flows' token; obs; the borrow of the room; true; res; the fractured borrow; flows' fact; the locals from 9]
+        -- [the room's token; true; flows' token; obs; the borrow of the room; true; res; the
+        -- fractured borrow; flows' fact; the locals from 9]
         keep ! (7 ∷ 2 ∷ 6 ∷ 8 ∷ 3 ∷ 4 ∷ 0 ∷ 9 ∷ 10 ∷ 11 ∷ 12 ∷ 13 ∷ 14 ∷ 15 ∷ 16 ∷ 17 ∷ 18 ∷ 19 ∷ 20 ∷ 21 ∷ 22 ∷ 23 ∷ 24 ∷ 25 ∷ 26 ∷ 27 ∷ 28 ∷ 29 ∷ 30 ∷ 31 ∷ 32 ∷ 33 ∷ 34 ∷ 35 ∷ 36 ∷ 37 ∷ 38 ∷ 39 ∷ 40 ∷ 41 ∷ 42 ∷ []) $
         assigns ! (of-opd ! (load ! (from ! (fld ! refl (stop !))) (look-in ! 33 (sub ! 1 refl (whole !))))) (from ! (stop !)) (init ! 23 refl (tt, record { fits = gm .0 })) $
         -- what flows owns is had twice: one is passed to the callee
         shr-bor-dup ! $ move ! (3 ∷ []) $ res-dup ! $ move ! (0 ∷ 2 ∷ []) $ fjoin ! $ pureI ! (at-slice T.the-row (x .0) (at .0)) (tt, (tt, tt)) (refl, gn) $ fjoin ! $
         nothing ! $ owned ! usize (Is usize) (uint-makes 𝓤 H A W w64) (length old) (vint w64 (length old) ∷ []) (refl, gm .0) $ fjoin ! $ owned ! D.the-row (Is D.the-row) (LL.makes D.the-type D′.the-plain 𝓤 H A) date (dates date) gd $ fjoin ! $ move ! (1 ∷ 0 ∷ []) $ fjoin ! $
         nothing ! $ move ! (4 ∷ 0 ∷ []) $ join ! $ use2 W (raw (AnswerAfter 𝓤 H A mem run .pre to-answer-after)) asked-answer-after $
-        -- [what the callee asks; res; the fractured borrow; flows' fact; obs; the borrow of the room; its token; the locals from 7]
+        -- [what the callee asks; res; the fractured borrow; flows' fact; obs; the borrow of the
+        -- room; its token; the locals from 7]
         calls-at ! fm (AnswerAfter 𝓤 H A mem run) known-answer-after to-answer-after (and-then ! (load ! (from ! (stop !)) (look ! 37 refl)) (and-then ! (load ! (from ! (stop !)) (look ! 35 refl)) (and-then ! (load ! (from ! (stop !)) (look ! 23 refl)) (no-more !)))) (λ v.
         use1 W (later (some (λ (r : FlowsAnswer). ((‵ (flft κ q) ⊛ ‵ ftrue) ⊛ ‵ (C.the-row .own r (v ∷ []))) ⊛ raw (ensured 𝓤 H A answer-after.ended (answer-after.clauses 𝓤 H A mem run) (κ, tt) (x .0, (date, (length old, tt))) tt r)))) (id⊢ 𝓤 _) $ await ! tt $ pick ! (λ r.
         split ! $ move ! (1 ∷ []) $ use1 W (raw (fact 𝓤 (Answers date ys (length old) r))) (said-answer-after r) $ heard ! (Answers date ys (length old) r) (λ answers. split ! $ move ! (1 ∷ []) $
-        -- [the result; the token; res; the fractured borrow; flows' fact; obs; the borrow of the room; its token; the locals from 8]
+        -- [the result; the token; res; the fractured borrow; flows' fact; obs; the borrow of the
+        -- room; its token; the locals from 8]
         peeks ! C.the-row (Is C.the-row) (shows 𝓤 H A C.the-row) r (v ∷ []) (λ made.
         land ! (from ! (stop !)) (init ! 32 refl (EL.lawful C.the-type C′.the-laws 𝓤 H A W tt .typed r (v ∷ []) made .0)) $
         drop ! $ split ! $ move ! (1 ∷ []) $ drop ! $ move ! (2 ∷ 0 ∷ 1 ∷ []) $

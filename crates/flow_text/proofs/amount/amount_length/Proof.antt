@@ -1,4 +1,5 @@
--- `flow_text::amount_length` meets its contract: 15, 17, or the length of the two parts. Laws of Answers.
+-- `flow_text::amount_length` meets its contract: 15, 17, or the length of the two parts. Laws of
+-- Answers.
 use mathlib.Core.Path.{sym, ap, _∙_}
 use mathlib.Core.Path.{subst}
 use native.Mathlib.Omega.{arith}

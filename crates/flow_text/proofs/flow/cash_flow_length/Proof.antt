@@ -1,4 +1,5 @@
--- `flow_text::cash_flow_length` meets its contract: the amount's refusal, 1, or the length of the two parts. Laws of Answers.
+-- `flow_text::cash_flow_length` meets its contract: the amount's refusal, 1, or the length of the
+-- two parts. Laws of Answers.
 use mathlib.Core.Path.{sym, ap, _∙_, subst}
 use lib.Dec.{T}
 use lib.ListN.{length}

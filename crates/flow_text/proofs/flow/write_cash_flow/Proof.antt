@@ -1,4 +1,5 @@
--- `flow_text::write_cash_flow` meets its contract: 15, 17, 1, 16, or the whole text. Laws of Answers.
+-- `flow_text::write_cash_flow` meets its contract: 15, 17, 1, 16, or the whole text. Laws of
+-- Answers.
 use mathlib.Core.Path.{sym, ap, _∙_}
 use native.Mathlib.Omega.{arith}
 use borrow.Author.Needs.{needs}

@@ -5,7 +5,7 @@ use mathlib.Core.Bool.{true}
 use native.Mathlib.Omega.{arith}
 use lib.IntN.{pos, _-ℤ_}
 use borrow.Author.Needs.{needs}
-use Rattle.rounding.proofs.Gap.{gap-fits, gap-is}
+use Rattle.rounding.proofs.Difference.{gap-fits, gap-is}
 use Rattle.calendar.specs.dates.Dates.{isDate, dayNumber}
 use Rattle.calendar.specs.declared.dates.Date.{Date}
 use Rattle.calendar.proofs.dates.Dates.{date-yes, number-to}

@@ -1,4 +1,5 @@
--- `icma::base_from` meets its contract: the two walks, one after the other, each from where its leap leads.
+-- `icma::base_from` meets its contract: the two walks, one after the other, each from where its
+-- leap leads.
 use mathlib.Core.Path.{_≡_, sym, _∙_, ap, subst}
 use native.Mathlib.Omega.{arith}
 use borrow.Author.Needs.{needs}

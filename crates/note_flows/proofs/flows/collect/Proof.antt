@@ -1,4 +1,5 @@
--- `note_flows::collect` meets its contract. The loop's invariant: what is counted and what is left are the whole, and what is counted is kept. The measure: how many flows there can be.
+-- `note_flows::collect` meets its contract. The loop's invariant: what is counted and what is left
+-- are the whole, and what is counted is kept. The measure: how many flows there can be.
 use mathlib.Core.Path.{_≡_, subst}
 use native.Mathlib.Omega.{arith}
 use borrow.Author.Needs.{needs}

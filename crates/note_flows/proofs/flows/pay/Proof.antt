@@ -1,4 +1,5 @@
--- `note_flows::pay` meets its contract: the adjusted date's serial day, or the adjustment's refusal.
+-- `note_flows::pay` meets its contract: the adjusted date's serial day, or the adjustment's
+-- refusal.
 use mathlib.Core.Path.{_≡_, sym, _∙_, ap}
 use Rattle.outcome.specs.Outcome.{given}
 use Rattle.calendar.specs.serial.Answers.{dateOutcome}

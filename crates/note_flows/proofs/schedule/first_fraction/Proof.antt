@@ -1,4 +1,5 @@
--- `note_flows::first_fraction` meets its contract: its end, from which it rolls, is a date of the calendar.
+-- `note_flows::first_fraction` meets its contract: its end, from which it rolls, is a date of the
+-- calendar.
 use borrow.Author.Needs.{needs}
 use Rattle.day_count_conv.proofs.conventions.Judged.{roll-dated}
 use Rattle.note_flows.proofs.schedule.first_fraction.Statement.{statement}

@@ -1,4 +1,5 @@
--- The loop keeps: k and the digits of what is left are one more than the digits of n. Laws of Digits.
+-- The loop keeps: k and the digits of what is left are one more than the digits of n. Laws of
+-- Digits.
 use Prim.Native.Nat.{_+_, _≤_}
 use mathlib.Core.Path.{_≡_}
 use native.Mathlib.Omega.{arith}

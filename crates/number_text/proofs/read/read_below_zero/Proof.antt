@@ -1,4 +1,5 @@
--- What the decimal gives is at most 2,147,483,648, so its negative fits: laws of Decimals and Signs.
+-- What the decimal gives is at most 2,147,483,648, so its negative fits: laws of Decimals and
+-- Signs.
 use mathlib.Core.Path.{_≡_, sym, ap, _∙_}
 use borrow.Author.Needs.{needs}
 use Rattle.outcome.specs.Outcome.{given}

@@ -1,4 +1,5 @@
--- The loop keeps: k bytes are read, v is at most `most`, and reading the bytes left behind v comes to the same as reading all. Each way out is one law of Decimals.
+-- The loop keeps: k bytes are read, v is at most `most`, and reading the bytes left behind v comes
+-- to the same as reading all. Each way out is one law of Decimals.
 use Prim.Native.Nat.{_+_, _-_, _*_, _≤_}
 use mathlib.Core.Path.{_≡_}
 use native.Mathlib.Omega.{arith}

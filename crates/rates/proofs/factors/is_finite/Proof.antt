@@ -1,4 +1,5 @@
--- `rates::is_finite` meets its contract: a finite number less itself equals itself. A law of Numbers.
+-- `rates::is_finite` meets its contract: a finite number less itself equals itself. A law of
+-- Numbers.
 use Rattle.rates.proofs.factors.Numbers.{less-itself}
 use Rattle.rates.proofs.factors.is_finite.Statement.{statement}
 use Rattle.rates.proofs.factors.is_finite.Tie as tie

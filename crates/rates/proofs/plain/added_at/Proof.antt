@@ -1,4 +1,5 @@
--- `rates::added_at` meets its contract: the flow's outcome by its date, or by its day. Laws of Counted.
+-- `rates::added_at` meets its contract: the flow's outcome by its date, or by its day. Laws of
+-- Counted.
 use Prim.Native.Nat.{ℕ, _-_}
 use mathlib.Core.Path.{sym, ap, _∙_}
 use lib.ListN.{getD}

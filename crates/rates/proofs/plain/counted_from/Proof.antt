@@ -1,4 +1,5 @@
--- `rates::counted_from` meets its contract: each check that fails leaves no day of the calendar; where none does it is today's.
+-- `rates::counted_from` meets its contract: each check that fails leaves no day of the calendar;
+-- where none does it is today's.
 use mathlib.Core.Path.{_≡_, sym, _∙_}
 use mathlib.Core.Bool.{true}
 use native.Mathlib.Omega.{arith}

@@ -1,4 +1,5 @@
--- `rates::discount_plain_flows` meets its contract: 15, or the flows one after the other; what is left decides. Laws of Streams.
+-- `rates::discount_plain_flows` meets its contract: 15, or the flows one after the other; what is
+-- left decides. Laws of Streams.
 use Prim.Native.Nat.{_-_, _≤_}
 use mathlib.Core.Path.{sym, ap, ap₂, _∙_}
 use borrow.Author.Needs.{needs}

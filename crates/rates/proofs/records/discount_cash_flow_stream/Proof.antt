@@ -1,4 +1,5 @@
--- `rates::discount_cash_flow_stream` meets its contract: a walk of its code, by hand. A call gives what a stream begins with; each turn reads a whole
+-- `rates::discount_cash_flow_stream` meets its contract: a walk of its code, by hand. A call gives
+-- what a stream begins with; each turn reads a whole
 -- flow and calls a covered function with it and with what stands so far. Laws of Walked.
 use mathlib.Core.Path.{_≡_, refl, sym}
 use Prim.Native.Nat.{ℕ, _<_, _^_, _*_, _-_}

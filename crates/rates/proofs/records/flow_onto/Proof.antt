@@ -1,4 +1,5 @@
--- `rates::flow_onto` meets its contract: the refusal of one before it, or the sum with the flow's value.
+-- `rates::flow_onto` meets its contract: the refusal of one before it, or the sum with the flow's
+-- value.
 use mathlib.Core.Path.{ap}
 use borrow.Author.Needs.{needs}
 use Rattle.cash_flow.specs.currency.Amounts.{amountOutcome}

@@ -1,4 +1,5 @@
--- `rates::flow_value` meets its contract: 15, 17, the fraction's refusal, or the factor times the amount.
+-- `rates::flow_value` meets its contract: 15, 17, the fraction's refusal, or the factor times the
+-- amount.
 use mathlib.Core.Path.{sym, ap, _∙_}
 use lib.Ieee.{Float, binary64, mul}
 use borrow.Author.Tests.{not-true, not-false}

@@ -1,4 +1,5 @@
--- `after` meets its contract: a walk of its code, by hand, since the borrow checker covers no slice of records. The first n flows and the first k places are lent for the call alone.
+-- `after` meets its contract: a walk of its code, by hand, since the borrow checker covers no slice
+-- of records. The first n flows and the first k places are lent for the call alone.
 use mathlib.Core.Path.{refl, sym}
 use Prim.Native.Nat.{ℕ, _<_, _≤_, _^_}
 use mathlib.Core.List.{List, [], _∷_, _++_}
@@ -133,14 +134,16 @@ module _ {M : Type 1} (𝓤 : URA M) (H : Heap 𝓤) (A : Atoms 𝓤) (W : Given
         assigns ! (addr ! (from ! (stop !))) (from ! (stop !)) (init ! 4 refl (tt, tt)) $
         assigns ! (agg ! (and-then ! (load ! (from ! (stop !)) (look ! 4 refl)) (and-then ! (load ! (from ! (stop !)) (look ! 16 refl)) (no-more !)))) (from ! (stop !)) (init ! 2 refl (tt, (tt, (record { fits = gk }, tt)))) $
         rewrite ! 6 (λ (m : ℕ). ‵ (fat fullShare slice l₁₀ 0 (sliceVal (l₆, 0) m))) (sym (first-many 300 n ys gy (le .0))) refl $ rewrite ! 2 (λ (m : ℕ). ‵ (fat fullShare mut-slice l₁₂ 0 (sliceVal (l₇, 0) m))) (sym (first-many 300 k old go (le .1))) refl $
-        -- the first n flows are lent as `&`, and the first k places as `&mut`, each for a lifetime that is made here
+        -- the first n flows are lent as `&`, and the first k places as `&mut`, each for a lifetime
+        -- that is made here
         lft-new ! tt (λ α. move ! (15 ∷ []) $
         use1 W (later (some (λ (γ : GName). ‵ (ShrSlice (named 0) (α ∷ []) T.the-row .own (slice-of l₆ (take n ys) γ) (sliceVal (l₆, 0) (length (take n ys)) ∷ [])) ⊛ ‵ (Shared l₆ (α ∷ []) ys n))))
         (lends 𝓤 H A W 300 l₆ (α ∷ []) ys n gy (room-take T.the-row 300 n ys (as-many 300 ys gy) (lit< tt, lit< tt))) $ await ! tt $ pick ! (λ γ. split ! $
         lft-new ! tt (λ β. move ! (16 ∷ []) $
         use1 W (later (some (λ (γ′ : GName). ‵ (MutSlice (named 1) (β ∷ []) T.the-row .own (slice-of l₇ (take k old) γ′) (sliceVal (l₇, 0) (length (take k old)) ∷ [])) ⊛ ‵ (Taken l₇ (β ∷ []) old k γ′))))
         (lends-out 𝓤 H A W 300 l₇ (named 1) (β ∷ []) old k go (room-take T.the-row 300 k old (as-many 300 old go) (lit< tt, lit< tt))) $ await ! tt $ pick ! (λ γ′. split ! $
-        -- [the room; what is left of it; its token; the flows; what is left of them; their token; the locals]: the call
+        -- [the room; what is left of it; its token; the flows; what is left of them; their token;
+        -- the locals]: the call
         nothing ! $ move ! (1 ∷ 0 ∷ []) $ fjoin ! $ owned ! D.the-row (Is D.the-row) (LL.makes D.the-type D′.the-plain 𝓤 H A) date (date-val date ∷ []) gd $ fjoin ! $ move ! (3 ∷ 0 ∷ []) $ fjoin ! $
         nothing ! $ move ! (3 ∷ 0 ∷ []) $ join ! $ move ! (4 ∷ 0 ∷ []) $ join ! $
         use2 W (raw (Callee 𝓤 H A mem run .pre (to (α ∷ []) (β ∷ []) l₆ l₇ γ γ′))) (asked (α ∷ []) (β ∷ []) l₆ l₇ γ γ′) $
@@ -149,7 +152,8 @@ module _ {M : Type 1} (𝓤 : URA M) (H : Heap 𝓤) (A : Atoms 𝓤) (W : Given
         split ! $ move ! (1 ∷ []) $
         use1 W (some (λ (ws : Unit {0} × (Unit {0} × (List CashFlow × Unit {0}))). ‵ (lasts callee.ended (α ∷ [], (β ∷ [], tt)) (passed (α ∷ []) (β ∷ []) l₆ l₇ γ γ′) ws) ⊛ raw (fact 𝓤 (AfterPromise (take n ys) date (take k old) r (ws .1 .1 .0))))) (id⊢ 𝓤 _) $ pick ! (λ ws.
         split ! $ fsplit ! $ drop ! $ fsplit ! $ drop ! $ fsplit ! $ fsplit ! $
-        -- [the room's last flows; their count; true; the promise; the tokens and the answer; what is left; the locals]
+        -- [the room's last flows; their count; true; the promise; the tokens and the answer; what
+        -- is left; the locals]
         move ! (1 ∷ []) $ drop ! $ move ! (1 ∷ []) $ drop ! $ move ! (1 ∷ []) $ drop ! $ move ! (1 ∷ []) $ split ! $ move ! (1 ∷ []) $
         peeks ! E.the-row (Is E.the-row) (shows 𝓤 H A E.the-row) r (u ∷ []) (λ is.
         land ! (from ! (stop !)) (init ! 15 refl (EL.lawful E.the-type E′.the-laws 𝓤 H A W tt .typed r (u ∷ []) is .0)) $

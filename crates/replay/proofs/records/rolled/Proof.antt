@@ -1,4 +1,5 @@
--- `rolled` meets its contract: a walk of its code, by hand, since the borrow checker covers no slice of records. The first k places are lent for the call alone.
+-- `rolled` meets its contract: a walk of its code, by hand, since the borrow checker covers no
+-- slice of records. The first k places are lent for the call alone.
 use mathlib.Core.Path.{refl, sym}
 use Prim.Native.Nat.{ℕ, _<_, _≤_, _^_}
 use mathlib.Core.List.{List, [], _∷_, _++_}
@@ -126,7 +127,8 @@ module _ {M : Type 1} (𝓤 : URA M) (H : Heap 𝓤) (A : Atoms 𝓤) (W : Given
         alloc1 ! (λ l₀. alloc1 ! (λ l₁. alloc1 ! (λ l₂. alloc1 ! (λ l₃. alloc1 ! (λ l₄. alloc1 ! (λ l₅. alloc1 ! (λ l₆. alloc1 ! (λ l₇. alloc1 ! (λ l₈. alloc1 ! (λ l₉. alloc1 ! (λ l₁₀. alloc0 ! $ params1 ! $
         pass1 ! (init ! 18 refl (LL.lawful N.the-type N′.the-laws 𝓤 H A W .typed note (note-val note ∷ []) gt .0)) $ pass1 ! (init ! 16 refl (float-lawful 𝓤 H A W binary64 .typed position (vfloat binary64 position ∷ []) gp .0)) $
         pass1 ! (init ! 14 refl (tt, (tt, (record { fits = gn .0 }, tt)))) $ pass1 ! (init ! 12 refl (flows-typed 𝓤 H A W 300 l₄ old go .0)) $ pass1 ! (init ! 10 refl (tt, record { fits = gk })) $ pass0 ! $
-        -- [the locals, 22; the token; what the parameters own]: the table is copied, for the call and for the exit
+        -- [the locals, 22; the token; what the parameters own]: the table is copied, for the call
+        -- and for the exit
         move ! (23 ∷ []) $ fsplit ! $ drop ! $ fsplit ! $ drop ! $ fsplit ! $ move ! (1 ∷ []) $ drop ! $
         use1 W (‵ (ShrSlice (named 0) κ u32 .own lent (sliceVal (b, o) (length table) ∷ [])) ⊛ ‵ (ShrSlice (named 0) κ u32 .own lent (sliceVal (b, o) (length table) ∷ []))) (shr-slice-copy 𝓤 H A W (named 0) κ u32 .twice lent (sliceVal (b, o) (length table) ∷ [])) $ split ! $
         move ! (24 ∷ []) $ split ! $ move ! (1 ∷ []) $ drop ! $
@@ -138,7 +140,8 @@ module _ {M : Type 1} (𝓤 : URA M) (H : Heap 𝓤) (A : Atoms 𝓤) (W : Given
         lft-new ! tt (λ β. move ! (12 ∷ []) $
         use1 W (later (some (λ (γ′ : GName). ‵ (MutSlice (named 1) (β ∷ []) T.the-row .own (slice-of l₆ (take k old) γ′) (sliceVal (l₆, 0) (length (take k old)) ∷ [])) ⊛ ‵ (Taken l₆ (β ∷ []) old k γ′))))
         (lends-out 𝓤 H A W 300 l₆ (named 1) (β ∷ []) old k go (room-take T.the-row 300 k old (as-many 300 old go) (lit< tt, lit< tt))) $ await ! tt $ pick ! (λ γ′. split ! $
-        -- [the room; what is left of it; its token; the table's token; the table, twice; the locals]: the call
+        -- [the room; what is left of it; its token; the table's token; the table, twice; the
+        -- locals]: the call
         nothing ! $ move ! (1 ∷ 0 ∷ []) $ fjoin ! $ move ! (4 ∷ 0 ∷ []) $ fjoin ! $ owned ! f64 (Is f64) (float-makes 𝓤 H A W binary64) position (vfloat binary64 position ∷ []) gp $ fjoin ! $
         owned ! N.the-row (Is N.the-row) (LL.makes N.the-type N′.the-plain 𝓤 H A) note (note-val note ∷ []) gt $ fjoin ! $ nothing ! $ move ! (3 ∷ 0 ∷ []) $ join ! $ move ! (3 ∷ 0 ∷ []) $ join ! $
         use2 W (raw (Callee 𝓤 H A mem run .pre (to (β ∷ []) l₆ γ′))) (asked (β ∷ []) l₆ γ′) $
@@ -147,7 +150,8 @@ module _ {M : Type 1} (𝓤 : URA M) (H : Heap 𝓤) (A : Atoms 𝓤) (W : Given
         split ! $ move ! (1 ∷ []) $
         use1 W (some (λ (ws : Unit {0} × (Unit {0} × (Unit {0} × (List CashFlow × Unit {0})))). ‵ (lasts callee.ended (κ, (β ∷ [], tt)) (passed (β ∷ []) l₆ γ′) ws) ⊛ raw (fact 𝓤 (RecordsPromise note position table (take k old) r (ws .1 .1 .1 .0))))) (id⊢ 𝓤 _) $ pick ! (λ ws.
         split ! $ fsplit ! $ drop ! $ fsplit ! $ drop ! $ fsplit ! $ drop ! $ fsplit ! $ fsplit ! $
-        -- [the room's last flows; their count; true; the promise; the tokens and the answer; what is left; the table; the locals]
+        -- [the room's last flows; their count; true; the promise; the tokens and the answer; what
+        -- is left; the table; the locals]
         move ! (1 ∷ []) $ drop ! $ move ! (1 ∷ []) $ drop ! $ move ! (1 ∷ []) $ drop ! $ move ! (1 ∷ []) $ split ! $ move ! (1 ∷ []) $
         peeks ! E.the-row (Is E.the-row) (shows 𝓤 H A E.the-row) r (u ∷ []) (λ is.
         land ! (from ! (stop !)) (init ! 11 refl (EL.lawful E.the-type E′.the-laws 𝓤 H A W tt .typed r (u ∷ []) is .0)) $

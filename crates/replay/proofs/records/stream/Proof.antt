@@ -1,4 +1,5 @@
--- `stream` meets its contract: a walk of its code, by hand, since the borrow checker covers no slice of records. The first n flows are lent for the call alone.
+-- `stream` meets its contract: a walk of its code, by hand, since the borrow checker covers no
+-- slice of records. The first n flows are lent for the call alone.
 use mathlib.Core.Path.{refl, sym}
 use Prim.Native.Nat.{ℕ, _<_, _≤_, _^_}
 use mathlib.Core.List.{List, [], _∷_}

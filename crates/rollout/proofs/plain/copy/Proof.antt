@@ -1,4 +1,5 @@
--- `rollout::copy` meets its contract. The loop's invariant: i places are copied and the others are as they were. The measure: how many are left.
+-- `rollout::copy` meets its contract. The loop's invariant: i places are copied and the others are
+-- as they were. The measure: how many are left.
 use Prim.Native.Nat.{ℕ, _-_, _≤_, _<_}
 use mathlib.Core.Path.{_≡_}
 use native.Mathlib.Omega.{arith}

@@ -1,4 +1,5 @@
--- `rollout::fill` meets its contract: the first pass decides the answer; what it kept is copied, and for more than that it is run again over the lent room.
+-- `rollout::fill` meets its contract: the first pass decides the answer; what it kept is copied,
+-- and for more than that it is run again over the lent room.
 use mathlib.Core.Path.{_≡_, sym, _∙_, ap}
 use native.Mathlib.Omega.{arith}
 use Rattle.outcome.specs.Outcome.{given}

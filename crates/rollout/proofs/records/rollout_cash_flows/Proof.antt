@@ -1,4 +1,5 @@
--- `rollout::rollout_cash_flows` meets its contract: a walk of its code. The first pass is a call that answers; in a loop each turn is a call that pays, and its record is stored.
+-- `rollout::rollout_cash_flows` meets its contract: a walk of its code. The first pass is a call
+-- that answers; in a loop each turn is a call that pays, and its record is stored.
 use mathlib.Core.Path.{_≡_, refl, sym, ap, subst, _∙_}
 use Prim.Native.Nat.{ℕ, _<_, _^_, _*_, _+_, _-_}
 use native.Mathlib.Omega.{arith}
@@ -198,7 +199,8 @@ module _ {M : Type 1} (𝓤 : URA M) (H : Heap 𝓤) (A : Atoms 𝓤) (W : Given
   abbrev Answers : FlowsAnswer → Type 0
   Answers r = flowsOutcome r ≡ counted (fitting (length old) (cashFlows note position table))
 
-  -- [the fractured borrow; the token; res; the table's fact; obs; the borrow of the room; its token]
+  -- [the fractured borrow; the token; res; the table's fact; obs; the borrow of the room; its
+  -- token]
   abbrev Front : List CashFlow → List (Item 𝓤)
   Front l = ‵ (fshr-bor κ (λ s. arr-parts (shares u32) (length table) .part s table b o)) ∷ ‵ (flft κ q) ∷ ‵ (fres γ (codedHoleys u32 .code (heres u32 table))) ∷ ‵ (at-slice u32 lent (sliceVal (b, o) (length table) ∷ [])) ∷ ‵ (fobs γ′ (codedHoleys T.the-row .code (heres T.the-row l))) ∷ ‵ (fbor κ′ (Held T.the-row (length l) b′ o′ γ′)) ∷ ‵ (flft κ′ q′) ∷ []
 
@@ -304,7 +306,8 @@ module _ {M : Type 1} (𝓤 : URA M) (H : Heap 𝓤) (A : Atoms 𝓤) (W : Given
     abbrev En : Env 𝓤 H
     En = (C′.mir, l₀) ∷ (N′.mir, l₁) ∷ (float, l₂) ∷ (table-slice, l₃) ∷ (room-slice, l₄) ∷ (kept-array u32, l₅) ∷ (kept-array f64, l₆) ∷ (C′.mir, l₇) ∷ (word, l₈) ∷ (kept-shared u32, l₉) ∷ (kept-shared f64, l₁₀) ∷ (P′.mir, l₁₁) ∷ (word, l₁₂) ∷ (kept-array u32, l₁₃) ∷ (kept-array f64, l₁₄) ∷ (word, l₁₅) ∷ (kept-lent u32, l₁₆) ∷ (kept-lent f64, l₁₇) ∷ (tyBool, l₁₈) ∷ (T′.mir, l₁₉) ∷ (word, l₂₀) ∷ (tyPtr, l₂₁) ∷ []
 
-    -- the seven of `Front`, the locals from the last, of which the arrays are lent, and what the arrays' references own
+    -- the seven of `Front`, the locals from the last, of which the arrays are lent, and what the
+    -- arrays' references own
     abbrev At : Upto → List (Item 𝓤)
     At t = ‵ (fshr-bor κ (λ s. arr-parts (shares u32) (length table) .part s table b o)) ∷ ‵ (flft κ q) ∷ ‵ (fres γ (codedHoleys u32 .code (heres u32 table))) ∷ ‵ (at-slice u32 lent (sliceVal (b, o) (length table) ∷ [])) ∷ ‵ (fobs γ′ (codedHoleys T.the-row .code (heres T.the-row (t .out)))) ∷ ‵ (fbor κ′ (Held T.the-row (length (t .out)) b′ o′ γ′)) ∷ ‵ (flft κ′ q′) ∷ ‵ (froom tyPtr l₂₁ 0) ∷ ‵ (fdies tyPtr l₂₁) ∷ ‵ (froom word l₂₀ 0) ∷ ‵ (fdies word l₂₀) ∷ ‵ (froom T′.mir l₁₉ 0) ∷ ‵ (fdies T′.mir l₁₉) ∷ ‵ (froom tyBool l₁₈ 0) ∷ ‵ (fdies tyBool l₁₈) ∷ ‵ (froom (kept-lent f64) l₁₇ 0) ∷ ‵ (fdies (kept-lent f64) l₁₇) ∷ ‵ (froom (kept-lent u32) l₁₆ 0) ∷ ‵ (fdies (kept-lent u32) l₁₆) ∷ ‵ (froom word l₁₅ 0) ∷ ‵ (fdies word l₁₅) ∷ ‵ (froom (kept-array f64) l₁₄ 0) ∷ ‵ (fdies (kept-array f64) l₁₄) ∷ ‵ (froom (kept-array u32) l₁₃ 0) ∷ ‵ (fdies (kept-array u32) l₁₃) ∷ ‵ (fat fullShare word l₁₂ 0 (vint w64 (t .k))) ∷ ‵ (fdies word l₁₂) ∷ ‵ (fat fullShare P′.mir l₁₁ 0 (LL.val P.the-type P′.the-laws (t .paid))) ∷ ‵ (fdies P′.mir l₁₁) ∷ ‵ (fat fullShare (kept-shared f64) l₁₀ 0 (vptr l₆ 0)) ∷ ‵ (fdies (kept-shared f64) l₁₀) ∷ ‵ (fat fullShare (kept-shared u32) l₉ 0 (vptr l₅ 0)) ∷ ‵ (fdies (kept-shared u32) l₉) ∷ ‵ (fat fullShare word l₈ 0 (vint w64 (length to-write))) ∷ ‵ (fdies word l₈) ∷ ‵ (fat fullShare C′.mir l₇ 0 v) ∷ ‵ (fdies C′.mir l₇) ∷ ‵ (fdies (kept-array f64) l₆) ∷ ‵ (fdies (kept-array u32) l₅) ∷ ‵ (fat fullShare room-slice l₄ 0 (sliceVal (b′, o′) (length old))) ∷ ‵ (fdies room-slice l₄) ∷ ‵ (fat fullShare table-slice l₃ 0 (sliceVal (b, o) (length table))) ∷ ‵ (fdies table-slice l₃) ∷ ‵ (fat fullShare float l₂ 0 (vfloat binary64 position)) ∷ ‵ (fdies float l₂) ∷ ‵ (fat fullShare N′.mir l₁ 0 (LL.val N.the-type N′.the-laws note)) ∷ ‵ (fdies N′.mir l₁) ∷ ‵ (froom C′.mir l₀ 0) ∷ ‵ (fdies C′.mir l₀) ∷ ‵ (fshr-bor α (λ s. partAt (Kept u32) s ds l₅ 0)) ∷ ‵ (flft α fullShare) ∷ ‵ (fres δ ((Kept u32) .coded .code ds)) ∷ ‵ (fshr-bor β (λ s. partAt (Kept f64) s xs l₆ 0)) ∷ ‵ (flft β fullShare) ∷ ‵ (fres ε ((Kept f64) .coded .code xs)) ∷ ‵ (flent α (partAt (Kept u32) fullShare ds l₅ 0)) ∷ ‵ (flent β (partAt (Kept f64) fullShare xs l₆ 0)) ∷ []
 

@@ -1,4 +1,5 @@
--- `term_text::read_month` meets its contract: the number before the next dot, and the check of the pair.
+-- `term_text::read_month` meets its contract: the number before the next dot, and the check of the
+-- pair.
 use Prim.Native.Nat.{ℕ}
 use mathlib.Core.Path.{_≡_, sym, _∙_, ap}
 use lib.Seq.{length-take-le}

@@ -1,4 +1,5 @@
--- `term_text::without_blanks` meets its contract: the text past the leading blanks, up to the trailing ones.
+-- `term_text::without_blanks` meets its contract: the text past the leading blanks, up to the
+-- trailing ones.
 use mathlib.Core.Path.{sym, _∙_, ap}
 use lib.Seq.{length-take-le}
 use borrow.Author.Needs.{needs}

@@ -1,4 +1,5 @@
--- `term_text::read_number` meets its contract: the number that stands before the letter, or the refusal.
+-- `term_text::read_number` meets its contract: the number that stands before the letter, or the
+-- refusal.
 use mathlib.Core.Path.{sym, _∙_, ap}
 use lib.IntN.{ℤ}
 use mir.Facts.{toZ-ofZ}

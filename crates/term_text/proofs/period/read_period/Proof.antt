@@ -1,4 +1,5 @@
--- `term_text::read_period` meets its contract: two bytes or more, the unit of the last, and the number before it.
+-- `term_text::read_period` meets its contract: two bytes or more, the unit of the last, and the
+-- number before it.
 use Prim.Native.Nat.{_-_}
 use mathlib.Core.Path.{sym, _∙_, ap}
 use native.Mathlib.Omega.{arith}

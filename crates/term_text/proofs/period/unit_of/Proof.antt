@@ -1,4 +1,5 @@
--- `term_text::unit_of` meets its contract: each arm of the `match` has its byte, and `_` has none of them.
+-- `term_text::unit_of` meets its contract: each arm of the `match` has its byte, and `_` has none
+-- of them.
 use borrow.Author.Tests.{ne-eqb}
 use Rattle.term_text.specs.period.PeriodTexts.{unitOfLetter}
 use Rattle.term_text.proofs.period.unit_of.Statement.{statement}

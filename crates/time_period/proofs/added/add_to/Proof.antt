@@ -1,4 +1,5 @@
--- `time_period::add_to` meets its contract: the date is judged, and B without a table is refused by the step.
+-- `time_period::add_to` meets its contract: the date is judged, and B without a table is refused by
+-- the step.
 use mathlib.Core.Path.{_≡_, sym, _∙_}
 use mathlib.Core.Bool.{true, false}
 use borrow.Author.Tests.{not-true, not-false}

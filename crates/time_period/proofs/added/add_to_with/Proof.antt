@@ -1,4 +1,5 @@
--- `time_period::add_to_with` meets its contract: the date and the table are judged in the order of the refusals, and then the step is taken.
+-- `time_period::add_to_with` meets its contract: the date and the table are judged in the order of
+-- the refusals, and then the step is taken.
 use mathlib.Core.Path.{_≡_, sym, _∙_}
 use mathlib.Core.Bool.{true, false}
 use borrow.Author.Tests.{not-true, not-false}

@@ -1,4 +1,5 @@
--- `time_period::step_once` meets its contract: the unit names the step, and the number is read back from the bits it is lent in.
+-- `time_period::step_once` meets its contract: the unit names the step, and the number is read back
+-- from the bits it is lent in.
 use mathlib.Core.Path.{sym, _∙_, ap}
 use mir.Facts.{toZ-ofZ}
 use borrow.Author.Needs.{needs}

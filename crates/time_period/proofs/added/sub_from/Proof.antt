@@ -1,4 +1,5 @@
--- `time_period::sub_from` meets its contract: the date is judged, the number negated, and B without a table refused by the step.
+-- `time_period::sub_from` meets its contract: the date is judged, the number negated, and B without
+-- a table refused by the step.
 use mathlib.Core.Path.{_≡_, sym, _∙_, ap}
 use mathlib.Core.Bool.{true, false}
 use borrow.Author.Tests.{not-true, not-false}

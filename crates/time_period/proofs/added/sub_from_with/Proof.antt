@@ -1,4 +1,5 @@
--- `time_period::sub_from_with` meets its contract: the date is judged, the number negated, the table judged, and then the step is taken.
+-- `time_period::sub_from_with` meets its contract: the date is judged, the number negated, the
+-- table judged, and then the step is taken.
 use mathlib.Core.Path.{_≡_, sym, _∙_, ap}
 use mathlib.Core.Bool.{true, false}
 use borrow.Author.Tests.{not-true, not-false}

@@ -1,4 +1,5 @@
--- `time_period::frequency` meets its contract: the unit says which table the magnitude is looked up in.
+-- `time_period::frequency` meets its contract: the unit says which table the magnitude is looked up
+-- in.
 use Prim.Native.Nat.{ℕ}
 use mathlib.Core.Logic.{⊎-elim}
 use mathlib.Core.List.{[], _∷_}

@@ -1,4 +1,5 @@
--- `time_period::months_frequency` meets its contract: each arm of the `match` has its number, and `_` has none of them.
+-- `time_period::months_frequency` meets its contract: each arm of the `match` has its number, and
+-- `_` has none of them.
 use borrow.Author.Tests.{ne-eqb}
 use Rattle.time_period.specs.steps.Periods.{monthsFrequency}
 use Rattle.time_period.proofs.frequencies.months_frequency.Statement.{statement}

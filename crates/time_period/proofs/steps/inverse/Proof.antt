@@ -1,4 +1,5 @@
--- `time_period::inverse` meets its contract: the least number is told by its bits, and every other has its negative.
+-- `time_period::inverse` meets its contract: the least number is told by its bits, and every other
+-- has its negative.
 use mathlib.Core.Path.{_≡_, ap}
 use mathlib.Core.Bool.{false}
 use lib.IntN.{ℤ}

@@ -1,4 +1,5 @@
--- `time_period::step_business` meets its contract: the sign says which way, and the magnitude how many business days.
+-- `time_period::step_business` meets its contract: the sign says which way, and the magnitude how
+-- many business days.
 use mathlib.Core.Path.{_≡_, sym, _∙_, ap}
 use lib.IntN.{natAbs}
 use mir.Facts.{toZ-ofZ}

@@ -1,4 +1,5 @@
--- Rounding is within half a unit in the last place, over whole numbers: in units of the format's smallest value, 2 ^ -low.
+-- Rounding is within half an ulp, over whole numbers: in units of the format's
+-- smallest value, 2 ^ -low.
 use mathlib.Core.Path.{_≡_, sym, subst}
 use Prim.Native.Nat.{ℕ, suc, _+_, _-_, _*_, _/_, _%_, _^_, _≤_, _<_, compare, Ordering, Ordering·lt, Ordering·eq, Ordering·gt}
 use native.Mathlib.Nat.{lt-of-lt-of-le, mul-comm, add-mul, suc-mul, sub-le, two-pow-succ, mul-le-mul-right, mul-le-mul-left, lt-of-mul-lt-mul-right, mul-pos, div-add-mod', div-lt-iff-lt-mul, mod-lt}
@@ -33,7 +34,8 @@ pub closest-near : (n u : ℕ) → 0 < u → Apart (closest n u * u * 2) (n * 2)
 closest-near n u U =
     near-multiple (compare (n % u * 2) u) (n / u) u (n % u) n (leb→le (n % u * 2) u) (nleb→lt (n % u * 2) u) (eqb→eq (n % u * 2) u) (mod-lt n U) (div-add-mod' n u)
 
--- a finite x of `size` units with the sign s, and twice its distance from n / den units is at most 2 ^ (j - prec)
+-- a finite x of `size` units with the sign s, and twice its distance from n / den units is at most
+-- 2 ^ (j - prec)
 pub record Rounded (f : Format) (x : Float) (s : Bool) (n den j : ℕ) : Type 0 where
   pub size : ℕ
   pub value : HasValue x s size (2 ^ low f)
@@ -46,7 +48,8 @@ below r den n j p h k =
     let d : (2 ^ j + 2 ^ j) * den ≡ 2 ^ j * den + 2 ^ j * den = add-mul (2 ^ j) (2 ^ j) den in
     rw two-pow-succ (lt-of-mul-lt-mul-right den (omega (arith, mul-comm den (2 ^ j))))
 
--- of a fraction below 2 ^ j units the rounded value is finite, and within half a unit in the last place
+-- of a fraction below 2 ^ j units the rounded value is finite, and within half a unit in the last
+-- place
 pub round-near : (f : Format) (s : Bool) (num den j : ℕ) → 0 < den → num * 2 ^ low f < 2 ^ j * den → j < low f + suc (emax f)
     → Rounded f (round f s num den) s (num * 2 ^ low f) den j
 round-near f s num den j D h top =

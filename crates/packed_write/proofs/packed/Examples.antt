@@ -15,7 +15,8 @@ use Rattle.bond.specs.limits.Limits.{isNoteNumber, isCouponRate}
 use Rattle.bond.specs.note.Notes.{periodChecks, termChecks, noteChecks}
 use Rattle.bond.specs.declared.note.Note.{Note}
 use Rattle.bond.specs.declared.limits.NoteNumber.{NoteNumber}
-use Rattle.bond.proofs.note.Examples.{every, numbered, listed}
+use Rattle.bond.specs.note.Example.{exampleNote as listed}
+use Rattle.bond.proofs.note.Examples.{every, numbered}
 use Rattle.time_period.specs.declared.steps.TimePeriod.{TimePeriod}
 use Rattle.time_period.specs.declared.steps.TimePeriodUnit.the-variants as unit
 use Rattle.packed_write.specs.raw.Codes.{digitsPlaces}

@@ -15,7 +15,7 @@ use icma::PartsAnswer;
 use time_period::FrequencyAnswer;
 use time_period::TimePeriod;
 
-// The packed codes 0 to 5 stand in this order.
+// In the order of document 01's table.
 pub enum DayCountConv {
     Act365,
     Act360,
@@ -44,11 +44,6 @@ pub enum RollPeriod {
 pub struct NoteTerms {
     pub roll: RollDate,
     pub period: RollPeriod,
-}
-
-pub enum ConventionAnswer {
-    Convention(DayCountConv),
-    Refused(u32),
 }
 
 // Inner: a fraction by 30/360 or 30E/360, unless it is 0 on two different dates.

@@ -2,11 +2,10 @@
 ghost use mathlib.Core.Path.{_≡_};
 ghost use Prim.Native.Nat.{_+_, _-_, _*_, _/_, _^_, _≤_, _<_};
 ghost use lib.Dec.{ltb};
-ghost use Rattle.outcome.specs.Outcome.{pick, andThen};
-ghost use Rattle.packed_codes.specs.Codes.{unitOfCode};
+ghost use Rattle.outcome.specs.Outcome.{pick};
 ghost use Rattle.packed_read.specs.note.Codes.{placeGood, digitsGood, digitsNumber, numberGood};
 ghost use Rattle.packed_read.specs.numbers.Numbers.{LettersFit, Fits};
-ghost use Rattle.packed_read.specs.note.Records.{currencyIn, periodIn, numberIn, noteWith, checkedUnit, NoteInPromise};
+ghost use Rattle.packed_read.specs.note.Records.{currencyIn, periodIn, numberIn, noteWith, noteByCodes, NoteInPromise};
 ghost use Rattle.bond.specs.note.Notes.{noteOutcome, noteChecks};
 ghost use mathlib.Core.Bool.{true};
 use crate::numbers::Letters;
@@ -17,8 +16,10 @@ use bond::Note;
 use bond::NoteAnswer;
 use bond::NoteNumber;
 use cash_flow::Currency;
-use day_count_conv::ConventionAnswer;
+use day_adjust::DayAdjust;
 use day_count_conv::DayCountConv;
+use packed_codes::AdjustmentAnswer;
+use packed_codes::ConventionAnswer;
 use time_period::TimePeriod;
 use time_period::TimePeriodUnit;
 use time_period::UnitAnswer;
@@ -119,9 +120,9 @@ fn number_in(raw: Raw) -> NoteNumber
 }
 
 // Of bits that are a number's, neither a NaN's nor an infinity's.
-fn note_with(raw: Raw, unit: TimePeriodUnit, convention: DayCountConv) -> Note
+fn note_with(raw: Raw, unit: TimePeriodUnit, convention: DayCountConv, rule: DayAdjust) -> Note
     requires { ⌜ (Fits raw) × (raw .rate < 9218868437227405312) ⌝ }
-    ensures { λ r. ⌜ r ≡ noteWith raw unit convention ⌝ }
+    ensures { λ r. ⌜ r ≡ noteWith raw unit convention rule ⌝ }
 {
     let issue_date = raw.issue;
     let maturity = raw.maturity;
@@ -135,7 +136,7 @@ fn note_with(raw: Raw, unit: TimePeriodUnit, convention: DayCountConv) -> Note
         coupon_date,
         period: period_in(terms, unit),
         day_count_convention: convention,
-        business_day_rule: packed_codes::adjustment_of_code(terms.adjustment),
+        business_day_rule: rule,
         denomination: raw.denomination,
         rate: f64::from_bits(raw.rate),
         currency: currency_in(letters),
@@ -143,34 +144,37 @@ fn note_with(raw: Raw, unit: TimePeriodUnit, convention: DayCountConv) -> Note
 }
 
 // Bits that are no number's are refused before they become an f64.
-fn checked(raw: Raw, unit: TimePeriodUnit, convention: DayCountConv, table: bool) -> NoteAnswer
+fn checked(
+    raw: Raw,
+    unit: TimePeriodUnit,
+    convention: DayCountConv,
+    rule: DayAdjust,
+    table: bool,
+) -> NoteAnswer
     requires { ⌜ (Fits raw) × (numberGood (raw .count) (raw .digits) ≡ true) ⌝ }
-    ensures { λ r. ⌜ noteOutcome r ≡ noteChecks true table (noteWith raw unit convention) ⌝ }
+    ensures { λ r. ⌜ noteOutcome r ≡ noteChecks true table (noteWith raw unit convention rule) ⌝ }
 {
     if NO_RATE <= raw.rate {
         return NoteAnswer::Refused(outcome::NUMBER_OUT_OF_LIMITS);
     }
-    bond::check_note_with(note_with(raw, unit, convention), true, table)
+    bond::check_note_with(note_with(raw, unit, convention, rule), true, table)
 }
 
-fn with_unit(raw: Raw, unit: TimePeriodUnit, table: bool) -> NoteAnswer
+fn by_codes(raw: Raw, table: bool) -> NoteAnswer
     requires { ⌜ (Fits raw) × (numberGood (raw .count) (raw .digits) ≡ true) ⌝ }
-    ensures { λ r. ⌜ noteOutcome r ≡ checkedUnit table raw unit ⌝ }
-{
-    let terms = raw.terms;
-    match packed_codes::convention_of_code(terms.convention) {
-        ConventionAnswer::Convention(convention) => checked(raw, unit, convention, table),
-        ConventionAnswer::Refused(n) => NoteAnswer::Refused(n),
-    }
-}
-
-fn by_unit(raw: Raw, table: bool) -> NoteAnswer
-    requires { ⌜ (Fits raw) × (numberGood (raw .count) (raw .digits) ≡ true) ⌝ }
-    ensures { λ r. ⌜ noteOutcome r ≡ andThen (unitOfCode (raw .terms .unit)) (checkedUnit table raw) ⌝ }
+    ensures { λ r. ⌜ noteOutcome r ≡ noteByCodes table raw ⌝ }
 {
     let terms = raw.terms;
     match packed_codes::unit_of_code(terms.unit) {
-        UnitAnswer::Unit(unit) => with_unit(raw, unit, table),
+        UnitAnswer::Unit(unit) => match packed_codes::convention_of_code(terms.convention) {
+            ConventionAnswer::Convention(convention) => match packed_codes::adjustment_of_code(
+                terms.adjustment,
+            ) {
+                AdjustmentAnswer::Adjustment(rule) => checked(raw, unit, convention, rule, table),
+                AdjustmentAnswer::Refused(n) => NoteAnswer::Refused(n),
+            },
+            ConventionAnswer::Refused(n) => NoteAnswer::Refused(n),
+        },
         UnitAnswer::Refused(n) => NoteAnswer::Refused(n),
     }
 }
@@ -189,5 +193,5 @@ pub(crate) fn note_in(raw: Raw, whole: bool, table: bool) -> NoteAnswer
     if raw.spare != 0 {
         return NoteAnswer::Refused(outcome::MALFORMED_RECORD);
     }
-    by_unit(raw, table)
+    by_codes(raw, table)
 }

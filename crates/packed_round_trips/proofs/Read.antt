@@ -39,7 +39,6 @@ unfolding rawOf
 narrow s h = record {
   digits = field-below s 4 40 (omega arith);
   number = field-below s 102 12 (omega arith);
-  adjustment = field-below s 117 2 (omega arith);
   rate = field-below s 151 64 (omega arith);
 }
 

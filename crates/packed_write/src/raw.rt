@@ -5,26 +5,14 @@ ghost use Prim.Native.Nat.{_+_, _-_, _/_, _%_, _^_, _≤_, _<_};
 ghost use lib.Dec.{ltb};
 ghost use Rattle.outcome.specs.Outcome.{pick};
 ghost use Rattle.cash_flow.specs.currency.Amounts.{isCurrency};
-ghost use Rattle.packed_write.specs.raw.Codes.{ruleCode, digitsPlaces};
+ghost use Rattle.packed_write.specs.raw.Codes.{digitsPlaces};
 ghost use Rattle.packed_write.specs.raw.Fields.{termsWith, lettersWith, rawWith};
 ghost use Rattle.packed_write.specs.raw.Fits.{RawFits, Packable};
 use bond::Note;
 use cash_flow::Currency;
-use day_adjust::DayAdjust;
 use packed_read::Letters;
 use packed_read::Raw;
 use packed_read::Terms;
-
-fn rule_code(rule: DayAdjust) -> u32
-    ensures { λ r. ⌜ r ≡ ruleCode rule ⌝ }
-{
-    match rule {
-        DayAdjust::None => 0,
-        DayAdjust::Following => 1,
-        DayAdjust::Preceding => 2,
-        DayAdjust::Modified => 3,
-    }
-}
 
 fn power_of_ten(n: u32) -> u64
     requires { ⌜ n ≤ 10 ⌝ }
@@ -76,7 +64,7 @@ fn terms_with(note: Note) -> Terms
         unit: packed_codes::code_of_unit(unit),
         number: number_text::magnitude(period.num),
         convention: packed_codes::code_of_convention(convention),
-        adjustment: rule_code(rule),
+        adjustment: packed_codes::code_of_adjustment(rule),
     }
 }
 

@@ -6,16 +6,14 @@ use mathlib.Core.List.{List, _++_}
 use borrow.Author.Tests.{le-leb, lt-leb, leb-true}
 use lib.Dec.{leb, eqb}
 use lib.ListN.{length, take, drop}
-use Rattle.outcome.specs.Outcome.{given, refused, unless, andThen, both}
+use Rattle.outcome.specs.Outcome.{given, refused, unless, both}
 use Rattle.outcome.proofs.Outcomes.{both-true, unless-given, then-given}
-use Rattle.day_count_conv.specs.conventions.Conventions.{conventionOf}
-use Rattle.bond.specs.note.Notes.{noteChecks}
 use Rattle.bond.specs.declared.note.Note.{Note}
 use Rattle.bond.proofs.note.Ends.{passed}
-use Rattle.packed_codes.specs.Codes.{unitOfCode}
+use Rattle.packed_codes.specs.Codes.{unitOfCode, conventionOfCode, adjustmentOfCode}
 use Rattle.packed_read.specs.note.Codes.{numberGood}
 use Rattle.packed_read.specs.numbers.Numbers.{rawOf}
-use Rattle.packed_read.specs.note.Records.{noteWith, checkedUnit, noteIn}
+use Rattle.packed_read.specs.note.Records.{noteWith, noteByCodes, noteIn}
 use Rattle.packed_read.specs.declared.numbers.Raw.{Raw}
 use Rattle.packed_read.specs.table.Tables.{tableCount, tableDays, isWhole, isTableIn}
 use Rattle.packed_read.proofs.table.Tables.{length-days}
@@ -24,12 +22,13 @@ use Rattle.packed_read.specs.declared.packed.PackedAnswer.the-variants a
 
 -- ---- a note is given: its bytes are whole, and its table is taken
 
-unfoldable pub taken-in : (table : Bool) (r : Raw) (n : Note) → andThen (unitOfCode (r .terms .unit)) (checkedUnit table r) ≡ given n → table ≡ true
-unfolding checkedUnit
+unfoldable pub taken-in : (table : Bool) (r : Raw) (n : Note) → noteByCodes table r ≡ given n → table ≡ true
+unfolding noteByCodes
 taken-in table r n e =
-    let u = then-given (unitOfCode (r .terms .unit)) (checkedUnit table r) n e in
-    let c = then-given (conventionOf (r .terms .convention)) (λ c. noteChecks true table (noteWith r (u .0) c)) n (u .2) in
-    passed true table (noteWith r (u .0) (c .0)) n (c .2) .table-taken
+    let u = then-given (unitOfCode (r .terms .unit)) _ n e in
+    let c = then-given (conventionOfCode (r .terms .convention)) _ n (u .2) in
+    let a = then-given (adjustmentOfCode (r .terms .adjustment)) _ n (c .2) in
+    passed true table (noteWith r (u .0) (c .0) (a .0)) n (a .2) .table-taken
 
 pub note-given : (whole table : Bool) (r : Raw) (n : Note) → noteIn whole table r ≡ given n → (whole ≡ true) × (table ≡ true)
 unfolding noteIn

@@ -11,7 +11,7 @@ use lib.Ieee.{Float, nan, inf, fin, binary64, fits, isNan}
 use lib.Ieee.Bits.{toBits-lt}
 use Rattle.outcome.specs.Outcome.{given, both}
 use Rattle.outcome.proofs.Numbers.{between}
-use Rattle.outcome.proofs.Outcomes.{both-true, unless-given}
+use Rattle.outcome.proofs.Outcomes.{both-true}
 use Rattle.calendar.proofs.gregorian.Months.{at-most}
 use Rattle.calendar.specs.dates.Dates.{isDate}
 use Rattle.calendar.specs.declared.dates.Date.{Date}
@@ -23,17 +23,13 @@ use Rattle.cash_flow.specs.currency.Amounts.{isCapital, isCurrency}
 use Rattle.cash_flow.specs.declared.currency.Currency.{Currency}
 use Rattle.time_period.specs.declared.steps.TimePeriodUnit.{TimePeriodUnit}
 use Rattle.day_adjust.specs.declared.DayAdjust.{DayAdjust}
-use Rattle.day_adjust.specs.declared.DayAdjust.the-variants as rule
-use Rattle.day_count_conv.specs.conventions.Conventions.{codeOf, conventionOf}
 use Rattle.day_count_conv.specs.declared.conventions.DayCountConv.{DayCountConv}
-use Rattle.day_count_conv.proofs.conventions.OneOutcome.{code-back}
 use Rattle.bond.specs.limits.Limits.{isNoteNumber, isCouponRate}
 use Rattle.bond.specs.declared.note.Note.{Note}
 use Rattle.bond.specs.declared.limits.NoteNumber.{NoteNumber}
 use Rattle.bond.proofs.note.Ends.{Accepted, passed}
-use Rattle.packed_codes.specs.Codes.{unitOfCode, codeOfUnit}
-use Rattle.packed_codes.proofs.Codes.{unit-back}
-use Rattle.packed_write.specs.raw.Codes.{ruleCode}
+use Rattle.packed_codes.specs.Codes.{units, codeOfUnit, conventions, codeOfConvention, adjustments, codeOfAdjustment}
+use Rattle.packed_codes.proofs.Codes.{place-below, unit-back, convention-back, adjustment-back}
 use Rattle.packed_write.specs.raw.Fields.{dateFields, couponFields, lettersFields, lettersWith, rawWith}
 use Rattle.packed_write.specs.raw.Fits.{AllFit, RawFits, Packable}
 use Rattle.time_period.proofs.steps.Signs.{above}
@@ -79,18 +75,13 @@ coupon-fits c e = let h = coupon-yes (c .day) (c .month) c e in (omega (arith, h
 -- ---- terms: a code that is read back is one that there is
 
 unit-below : (u : TimePeriodUnit) → codeOfUnit u < 5
-unfolding unitOfCode
-unit-below u = ltb-true (codeOfUnit u) 5 (unless-given (ltb (codeOfUnit u) 5) 18 _ u (unit-back u) .0)
+unit-below u = place-below units (codeOfUnit u) u (unit-back u)
 
-rule-below : (r : DayAdjust) → ruleCode r < 4
-rule-below rule.None = omega arith
-rule-below rule.Following = omega arith
-rule-below rule.Preceding = omega arith
-rule-below rule.Modified = omega arith
+convention-below : (c : DayCountConv) → codeOfConvention c < 6
+convention-below c = place-below conventions (codeOfConvention c) c (convention-back c)
 
-code-below : (c : DayCountConv) → codeOf c < 6
-unfolding conventionOf
-code-below c = ltb-true (codeOf c) 6 (unless-given (ltb (codeOf c) 6) 18 _ c (code-back c) .0)
+adjustment-below : (a : DayAdjust) → codeOfAdjustment a < 4
+adjustment-below a = place-below adjustments (codeOfAdjustment a) a (adjustment-back a)
 
 -- a period from 1 to 4,095
 pub in-twelve : (z : ℤ) → ltZ (pos 0) z ≡ true → leZ z (pos 4095) ≡ true → (natAbs z ≤ 4095) × (pos (natAbs z) ≡ z)
@@ -123,7 +114,7 @@ raw-fits n h d f =
       issue = date-fits (n .«issue_date») (a .issued);
       maturity = date-fits (n .maturity) (a .matures);
       coupon = coupon-fits (n .«coupon_date») (a .coupon);
-      terms = (omega (arith, unit-below (n .period .unit)), (omega (arith, in-twelve (n .period .num) (a .period) (h .0) .0), (omega (arith, code-below (n .«day_count_convention»)), (omega (arith, rule-below (n .«business_day_rule»)), omega arith))));
+      terms = (omega (arith, unit-below (n .period .unit)), (omega (arith, in-twelve (n .period .num) (a .period) (h .0) .0), (omega (arith, convention-below (n .«day_count_convention»)), (omega (arith, adjustment-below (n .«business_day_rule»)), omega arith))));
       denomination = d;
       rate = toBits-lt binary64 (n .rate) f;
       letters = letters-fit (n .currency) (capitals (n .currency) (a .currency));

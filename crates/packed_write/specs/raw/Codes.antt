@@ -1,16 +1,7 @@
--- Codes that a note is packed with: adjustments, and the places of a number's digits.
+-- The places of a number's digits.
 use Prim.Native.Nat.{ℕ, zero, suc, _+_, _*_, _/_, _%_}
 use lib.Dec.{ltb}
 use Rattle.outcome.specs.Outcome.{pick}
-use Rattle.day_adjust.specs.declared.DayAdjust.{DayAdjust}
-use Rattle.day_adjust.specs.declared.DayAdjust.the-variants as rule
-
--- adjustment: none, following, preceding, modified = 0 to 3
-abbrev pub ruleCode : DayAdjust → ℕ
-ruleCode rule.None = 0
-ruleCode rule.Following = 1
-ruleCode rule.Preceding = 2
-ruleCode rule.Modified = 3
 
 -- the first k places of a number of c digits, 4 bits each: its digits, leading zeros with them, and 15 where none is left
 unfoldable pub digitsPlaces : ℕ → ℕ → ℕ → ℕ

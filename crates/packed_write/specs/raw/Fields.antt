@@ -7,13 +7,12 @@ use Rattle.bit_fields.specs.Bits.{Field, inBits}
 use Rattle.calendar.specs.declared.dates.Date.{Date}
 use Rattle.coupon_date.specs.declared.CouponDate.{CouponDate}
 use Rattle.cash_flow.specs.declared.currency.Currency.{Currency}
-use Rattle.day_count_conv.specs.conventions.Conventions.{codeOf}
 use Rattle.bond.specs.declared.note.Note.{Note}
 use Rattle.packed_read.specs.declared.numbers.Terms.{Terms}
 use Rattle.packed_read.specs.declared.numbers.Letters.{Letters}
 use Rattle.packed_read.specs.declared.numbers.Raw.{Raw}
-use Rattle.packed_codes.specs.Codes.{codeOfUnit}
-use Rattle.packed_write.specs.raw.Codes.{ruleCode, digitsPlaces}
+use Rattle.packed_codes.specs.Codes.{codeOfUnit, codeOfConvention, codeOfAdjustment}
+use Rattle.packed_write.specs.raw.Codes.{digitsPlaces}
 
 -- digit count 4; ten digits of 4
 abbrev pub numberFields : Raw → List Field
@@ -40,7 +39,7 @@ lettersFields l = inBits 5 (l .first) ∷ inBits 5 (l .second) ∷ inBits 5 (l .
 
 -- the terms a note is packed with, the period's number unsigned
 abbrev pub termsWith : Note → Terms
-termsWith n = record { unit = codeOfUnit (n .period .unit); number = natAbs (n .period .num); convention = codeOf (n .«day_count_convention»); adjustment = ruleCode (n .«business_day_rule») }
+termsWith n = record { unit = codeOfUnit (n .period .unit); number = natAbs (n .period .num); convention = codeOfConvention (n .«day_count_convention»); adjustment = codeOfAdjustment (n .«business_day_rule») }
 
 -- a letter is its place in the alphabet: A = 1
 abbrev pub lettersWith : Currency → Letters

@@ -11,7 +11,7 @@ use Rattle.packed_read.proofs.note.checked.Tie as tie
 returns : tie.Need-returns
 returns c =
     let s = c .before .before in
-    no-rate (s .args .table) (s .args .raw) (s .args .unit) (s .args .convention) (s .pre .1) (c .if1 .taken) (s .pre .0 .2)
+    no-rate (s .args .table) (s .args .raw) (s .args .unit) (s .args .convention) (s .args .rule) (s .pre .1) (c .if1 .taken) (s .pre .0 .2)
 
 note-with-requires : tie.Need-note-with-requires
 note-with-requires c κs = (c .before .before .pre .0, omega arith)

@@ -24,13 +24,13 @@ returns-3 c =
     let a = c .before .before .before .before .before .args in
     spare-bits (a .table) (a .raw) (a .whole) (not-false _ (c .before .before .before .before .if1 .left)) (sym (c .before .before .before .number-good .ensures) ∙ not-false _ (c .before .before .if2 .left)) (c .if3 .taken)
 
-by-unit-requires : tie.Need-by-unit-requires
-by-unit-requires c κs = (c .before .before .before .before .before .pre, sym (c .before .before .before .number-good .ensures) ∙ not-false _ (c .before .before .if2 .left))
+by-codes-requires : tie.Need-by-codes-requires
+by-codes-requires c κs = (c .before .before .before .before .before .pre, sym (c .before .before .before .number-good .ensures) ∙ not-false _ (c .before .before .if2 .left))
 
 returns-4 : tie.Need-returns-4
 returns-4 c =
     let a = c .before .before .before .before .before .before .args in
-    c .by-unit .ensures ∙ sym (well-formed (a .table) (a .raw) (a .whole) (not-false _ (c .before .before .before .before .before .if1 .left)) (sym (c .before .before .before .before .number-good .ensures) ∙ not-false _ (c .before .before .before .if2 .left)) (c .before .if3 .left))
+    c .by-codes .ensures ∙ sym (well-formed (a .table) (a .raw) (a .whole) (not-false _ (c .before .before .before .before .before .if1 .left)) (sym (c .before .before .before .before .number-good .ensures) ∙ not-false _ (c .before .before .before .if2 .left)) (c .before .if3 .left))
 
 pub note-in-spec : {M : Type 1} → statement M
-note-in-spec = tie.close (tie.spec returns number-good-requires returns-2 returns-3 by-unit-requires returns-4)
+note-in-spec = tie.close (tie.spec returns number-good-requires returns-2 returns-3 by-codes-requires returns-4)

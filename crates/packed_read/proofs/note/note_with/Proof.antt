@@ -11,27 +11,24 @@ number-in-requires c κs = search needs
 period-in-requires : tie.Need-period-in-requires
 period-in-requires c κs = search needs
 
-adjustment-of-code-requires : tie.Need-adjustment-of-code-requires
-adjustment-of-code-requires c κs = search needs
-
 float-from-bits-t12 : tie.Need-float-from-bits-t12
-float-from-bits-t12 c = no-nan _ (c .before .before .before .before .before .before .before .before .before .pre .1)
+float-from-bits-t12 c = no-nan _ (c .before .before .before .before .before .before .before .before .pre .1)
 
 currency-in-requires : tie.Need-currency-in-requires
 currency-in-requires c κs = search needs
 
 returns : tie.Need-returns
 returns c =
-    let b = c .before .before .before .before in
+    let b = c .before .before .before in
     let a = b .before .before .before .before .before .before .args in
     λ i. record {
       number = b .number-in .ensures i;
       «issue_date» = a .raw .issue;
       maturity = a .raw .maturity;
       «coupon_date» = a .raw .coupon;
-      period = c .before .before .before .period-in .ensures i;
+      period = c .before .before .period-in .ensures i;
       «day_count_convention» = a .convention;
-      «business_day_rule» = c .before .before .adjustment-of-code .ensures i;
+      «business_day_rule» = a .rule;
       denomination = a .raw .denomination;
       rate = ofBits binary64 (a .raw .rate);
       currency = c .currency-in .ensures i;
@@ -43,7 +40,6 @@ note-with-spec =
     (tie.spec
     number-in-requires
     period-in-requires
-    adjustment-of-code-requires
     float-from-bits-t12
     currency-in-requires
     returns)

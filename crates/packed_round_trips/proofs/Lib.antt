@@ -1,4 +1,4 @@
-pub mod Found
+pub mod Tables
 pub mod Digits
 pub mod Notes
 pub mod Written

@@ -9,7 +9,7 @@ ghost use Rattle.calendar.specs.serial.Answers.{dateOutcome};
 ghost use Rattle.time_period.specs.steps.Steps.{absent, stepped};
 ghost use Rattle.day_count_conv.specs.conventions.Conventions.{fractionOutcome};
 ghost use Rattle.accrued_interest.specs.period.PeriodInterest.{Begun};
-ghost use Rattle.accrued_interest.specs.note.Accrued.{couponPeriodOutcome, periodHolding, accruedFrom, accruedOn, inBits, AccruedPromise};
+ghost use Rattle.accrued_interest.specs.note.Accrued.{couponPeriodOutcome, periodHolding, accruedFrom, accruedOn, amountsInF64, AccruedPromise};
 use crate::period::CouponPeriod;
 use bond::Note;
 use bond::NoteAnswer;
@@ -67,7 +67,7 @@ fn period_holding(note: Note, today: Date, first: CouponPeriod) -> CouponPeriodA
 
 fn accrued_from(note: Note, today: Date, first: CouponPeriod) -> YearFraction
     requires { ⌜ (ltZ (pos 0) (note .period .num) ≡ true) × (isDate today ≡ true) × Begun today first ⌝ }
-    ensures { λ r. ⌜ fractionOutcome r ≡ accruedFrom inBits note today first ⌝ }
+    ensures { λ r. ⌜ fractionOutcome r ≡ accruedFrom amountsInF64 note today first ⌝ }
 {
     match period_holding(note, today, first) {
         CouponPeriodAnswer::Period(p) => crate::period::accrued_in(note, today, p),
@@ -78,7 +78,7 @@ fn accrued_from(note: Note, today: Date, first: CouponPeriod) -> YearFraction
 // Of a note that is accepted.
 fn accrued_on(note: Note, today: Date) -> YearFraction
     requires { ⌜ (ltZ (pos 0) (note .period .num) ≡ true) × (isDate (note .«issue_date») ≡ true) ⌝ }
-    ensures { λ r. ⌜ fractionOutcome r ≡ accruedOn inBits note today ⌝ }
+    ensures { λ r. ⌜ fractionOutcome r ≡ accruedOn amountsInF64 note today ⌝ }
 {
     if !calendar::is_date(today) {
         return YearFraction::Refused(outcome::INVALID_DATE);

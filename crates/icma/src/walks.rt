@@ -108,7 +108,7 @@ fn skip_on(p: TimePeriod, from: Date, limit: Date) -> Walked
     if there <= here {
         return Walked { at: from, count: 0 };
     }
-    let months = number_text::magnitude(p.num);
+    let months = outcome::magnitude(p.num);
     let count = (there - here - 1) / months;
     let at = uncut_date(here + count * months, from.day);
     Walked { at, count }
@@ -127,7 +127,7 @@ fn skip_back(q: TimePeriod, from: Date, limit: Date) -> Walked
     if here <= there {
         return Walked { at: from, count: 0 };
     }
-    let months = number_text::magnitude(q.num);
+    let months = outcome::magnitude(q.num);
     let count = (here - there - 1) / months;
     let at = uncut_date(here - count * months, from.day);
     Walked { at, count }

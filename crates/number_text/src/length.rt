@@ -1,6 +1,4 @@
 // How long the text of a number is, as Rust's `Display` of integers writes it.
-ghost use mathlib.Core.Path.{_≡_};
-ghost use lib.IntN.{natAbs};
 ghost use Rattle.number_text.specs.length.NumberTexts.{TakesDecimal, TakesPadded, TakesSigned};
 
 // How many bytes the shortest decimal of n takes.
@@ -24,21 +22,10 @@ pub fn padded_length(n: u64, width: usize) -> usize
     if k < width { width } else { k }
 }
 
-// A number without its sign; the least number has one too: 2,147,483,648.
-pub fn magnitude(n: i32) -> u32
-    ensures { λ r. ⌜ r ≡ natAbs n ⌝ }
-{
-    if n < 0 {
-        (0 - n as i64) as u32
-    } else {
-        n as u32
-    }
-}
-
 // How many bytes the text of n takes.
 pub fn signed_length(n: i32) -> usize
     ensures { λ r. ⌜ TakesSigned n r ⌝ }
 {
-    let k = decimal_length(magnitude(n) as u64);
+    let k = decimal_length(outcome::magnitude(n) as u64);
     if n < 0 { k + 1 } else { k }
 }

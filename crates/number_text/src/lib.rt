@@ -4,7 +4,6 @@ pub mod read;
 pub mod write;
 
 pub use length::decimal_length;
-pub use length::magnitude;
 pub use length::padded_length;
 pub use length::signed_length;
 pub use read::NumberAnswer;

@@ -2,10 +2,9 @@
 ghost use Prim.Native.Nat.{_+_, _≤_};
 ghost use lib.ListN.{length, replicate};
 ghost use Rattle.number_text.specs.write.Writing.{digits, decimalText, paddedText, signText, signedText, Wrote, Written, lengthOutcome};
-pub use crate::length::decimal_length;
-pub use crate::length::magnitude;
-pub use crate::length::padded_length;
-pub use crate::length::signed_length;
+use crate::length::decimal_length;
+use crate::length::padded_length;
+use crate::length::signed_length;
 
 pub enum LengthAnswer {
     Length(usize),
@@ -88,7 +87,7 @@ pub fn put_signed(n: i32, out: &mut [u8], at: usize) -> usize
     ensures { λ r. ⌜ Wrote (now (out .entry)) (now (out .exit)) at (signedText n) r ⌝ }
 {
     let first = put_sign(n < 0, out, at);
-    put_decimal(magnitude(n) as u64, out, first)
+    put_decimal(outcome::magnitude(n) as u64, out, first)
 }
 
 // What `Display` of a u32 writes.

@@ -6,3 +6,5 @@ pub mod Walks
 pub mod Filling
 pub mod Fitting
 pub mod RecordWalks
+pub mod Signs
+pub mod OneOutcome

@@ -1,5 +1,6 @@
 // The numbers a clerk may see: each refusal of the register has one of them, and finql's name where it has one.
 // Lent room: laws only. What stands in a lent list once others are written into it from its front.
+ghost use Rattle.outcome.specs.Signs.{MagnitudePromise};
 
 pub const INVALID_DATE: u32 = 1;
 
@@ -38,3 +39,14 @@ pub const BAD_CURRENCY: u32 = 17;
 pub const MALFORMED_RECORD: u32 = 18;
 
 pub const START_AFTER_END: u32 = 19;
+
+// A number without its sign; the least number has one too: 2,147,483,648.
+pub fn magnitude(n: i32) -> u32
+    ensures { λ r. ⌜ MagnitudePromise n r ⌝ }
+{
+    if n < 0 {
+        (0 - n as i64) as u32
+    } else {
+        n as u32
+    }
+}

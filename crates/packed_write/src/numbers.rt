@@ -83,7 +83,7 @@ pub(crate) fn numbers_from_note(note: Note) -> [u64; FIELDS]
     numbers[packed_layout::COUPON_DAY] = coupon.day as u64;
     numbers[packed_layout::COUPON_MONTH] = coupon.month as u64;
     numbers[packed_layout::UNIT] = packed_codes::code_of_unit(unit) as u64;
-    numbers[packed_layout::NUMBER] = number_text::magnitude(period.num) as u64;
+    numbers[packed_layout::NUMBER] = outcome::magnitude(period.num) as u64;
     numbers[packed_layout::DAY_COUNT] = packed_codes::code_of_convention(convention) as u64;
     numbers[packed_layout::ADJUSTMENT] = packed_codes::code_of_adjustment(rule) as u64;
     numbers[packed_layout::DENOMINATION] = note.denomination as u64;

@@ -41,7 +41,7 @@ fn fraction_to(rule: DayCountConv, today: Date, pay_date: Date) -> YearFraction
 pub fn discount_factor(rate: FlatRate, today: Date, pay_date: Date) -> FactorAnswer
     ensures { λ r. ⌜ FactorPromise rate today «pay_date» r ⌝ }
 {
-    if !is_rate(rate.rate) {
+    if !is_discount_rate(rate.rate) {
         return FactorAnswer::Refused(outcome::NUMBER_OUT_OF_LIMITS);
     }
     let rule = rate.day_count_conv;
@@ -87,7 +87,7 @@ fn flow_value(rate: FlatRate, flow: CashFlow, today: Date) -> AmountAnswer
 pub fn discount_cash_flow(rate: FlatRate, flow: CashFlow, today: Date) -> AmountAnswer
     ensures { λ r. ⌜ FlowPromise rate today flow r ⌝ }
 {
-    if !is_rate(rate.rate) {
+    if !is_discount_rate(rate.rate) {
         return AmountAnswer::Refused(outcome::NUMBER_OUT_OF_LIMITS);
     }
     flow_value(rate, flow, today)

@@ -91,7 +91,7 @@ pub(crate) fn flag(b: bool) -> Row {
 }
 
 pub(crate) fn with_signed(row: Row, n: i32) -> Row {
-    let m = number_text::magnitude(n) as u64;
+    let m = outcome::magnitude(n) as u64;
     if n < 0 {
         return with_number(with(row, b' ', ALONE, 0), b'-', m);
     }

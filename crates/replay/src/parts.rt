@@ -18,7 +18,7 @@ pub(crate) fn count(verb: u8, f: &[u8]) -> u64 {
     match verb {
         61 => number_text::decimal_length(fields::long(f, 0)) as u64,
         62 => number_text::padded_length(fields::long(f, 0), fields::places(f, 8)) as u64,
-        63 => number_text::magnitude(fields::signed(f, 0)) as u64,
+        63 => outcome::magnitude(fields::signed(f, 0)) as u64,
         64 => number_text::signed_length(fields::signed(f, 0)) as u64,
         69 => decimal::leading_zeros(f) as u64,
         _ => packed_codes::code_of_convention(fields::convention(f, 0)) as u64,

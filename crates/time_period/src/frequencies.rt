@@ -40,7 +40,7 @@ pub fn frequency(p: TimePeriod) -> FrequencyAnswer
         TimePeriodUnit::Daily | TimePeriodUnit::BusinessDaily | TimePeriodUnit::Weekly => {
             FrequencyAnswer::Refused(outcome::NO_FREQUENCY)
         }
-        TimePeriodUnit::Monthly => months_frequency(number_text::magnitude(p.num)),
-        TimePeriodUnit::Annual => years_frequency(number_text::magnitude(p.num)),
+        TimePeriodUnit::Monthly => months_frequency(outcome::magnitude(p.num)),
+        TimePeriodUnit::Annual => years_frequency(outcome::magnitude(p.num)),
     }
 }

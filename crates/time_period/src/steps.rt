@@ -76,9 +76,9 @@ fn step_business(n: i32, t: Date, holidays: &[u32]) -> DateAnswer
 {
     let day = calendar::day_of_date(t);
     if n < 0 {
-        dated(business_days::earlier_from(day, number_text::magnitude(n), holidays))
+        dated(business_days::earlier_from(day, outcome::magnitude(n), holidays))
     } else {
-        dated(business_days::later_from(day, number_text::magnitude(n), holidays))
+        dated(business_days::later_from(day, outcome::magnitude(n), holidays))
     }
 }
 

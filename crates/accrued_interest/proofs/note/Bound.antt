@@ -31,12 +31,12 @@ use Rattle.bond.specs.declared.note.Note.{Note}
 use Rattle.bond.proofs.note.Ends.{Accepted, passed}
 use Rattle.bond.proofs.note.AmountBound.{AmountNear, interest-near}
 use Rattle.accrued_interest.specs.period.PeriodInterest.{Begun, elapsedDays, periodDays, rolled, dueBits, dueExact}
-use Rattle.accrued_interest.specs.note.Accrued.{running, goesOn, periodHolding, amountDue, accruedIn, accruedFrom, accruedOn, accrued, inBits, exactly, CloseAmount, AccruedPromise}
+use Rattle.accrued_interest.specs.note.Accrued.{running, goesOn, periodHolding, amountDue, accruedIn, accruedFrom, accruedOn, accrued, amountsInF64, amountsExactly, CloseAmount, AccruedPromise}
 use Rattle.accrued_interest.specs.declared.period.CouponPeriod.{CouponPeriod}
 use Rattle.accrued_interest.proofs.note.Walk.{first-begun, holding-stops}
 
 -- nothing is 0
-nothing-close : Agree CloseAmount (given (inBits .nothing)) (given (exactly .nothing))
+nothing-close : Agree CloseAmount (given (amountsInF64 .nothing)) (given (amountsExactly .nothing))
 unfolding ofBits
 nothing-close = (lit≤ tt, (tt, lit≤ tt))
 
@@ -54,7 +54,7 @@ part-close x q elapsed days h k l A =
 
 module _ (n : Note) (today : Date) (few : n .denomination ≤ 1000000) (held : T (fits binary64 (n .rate))) (a : Accepted n) (dt : isDate today ≡ true) where
   -- what is due in a period that today does not lie past
-  due-agrees : (p : CouponPeriod) → Begun today p → dayNumber today ≤ dayNumber (p .end) → Agree CloseAmount (amountDue inBits n today p) (amountDue exactly n today p)
+  due-agrees : (p : CouponPeriod) → Begun today p → dayNumber today ≤ dayNumber (p .end) → Agree CloseAmount (amountDue amountsInF64 n today p) (amountDue amountsExactly n today p)
   unfolding amountDue
   due-agrees p b l =
       given-agree NearTo CloseAmount (yearFraction fraction.fractionsInF64 (n .«day_count_convention») (p .start) (p .end) (rolled n p)) (yearFraction fraction.fractionsExactly (n .«day_count_convention») (p .start) (p .end) (rolled n p))
@@ -74,17 +74,17 @@ module _ (n : Note) (today : Date) (few : n .denomination ≤ 1000000) (held : T
       by true d g h = sym h ∙ g
       by false d g h = refl
 
-  in-agrees : (p : CouponPeriod) → Begun today p → goesOn n today p ≡ false → Agree CloseAmount (accruedIn inBits n today p) (accruedIn exactly n today p)
+  in-agrees : (p : CouponPeriod) → Begun today p → goesOn n today p ≡ false → Agree CloseAmount (accruedIn amountsInF64 n today p) (accruedIn amountsExactly n today p)
   unfolding accruedIn
   in-agrees p b g = pick-agree CloseAmount (isBefore (p .end) (n .maturity)) _ _ _ _ (λ h. due-agrees p b (not-past p b g h)) (λ h. nothing-close)
 
-  from-agrees : (p : CouponPeriod) → Begun today p → Agree CloseAmount (accruedFrom inBits n today p) (accruedFrom exactly n today p)
+  from-agrees : (p : CouponPeriod) → Begun today p → Agree CloseAmount (accruedFrom amountsInF64 n today p) (accruedFrom amountsExactly n today p)
   unfolding accruedFrom
   from-agrees p b =
-      then-agree CloseAmount (periodHolding n today p) (accruedIn inBits n today) (accruedIn exactly n today)
+      then-agree CloseAmount (periodHolding n today p) (accruedIn amountsInF64 n today) (accruedIn amountsExactly n today)
       (λ q e. let s = holding-stops n today (a .period) dt p q b e in in-agrees q (s .0) (s .1))
 
-on-agrees : (n : Note) (today : Date) → n .denomination ≤ 1000000 → T (fits binary64 (n .rate)) → Accepted n → Agree CloseAmount (accruedOn inBits n today) (accruedOn exactly n today)
+on-agrees : (n : Note) (today : Date) → n .denomination ≤ 1000000 → T (fits binary64 (n .rate)) → Accepted n → Agree CloseAmount (accruedOn amountsInF64 n today) (accruedOn amountsExactly n today)
 unfolding accruedOn
 on-agrees n today few held a =
     unless-agree CloseAmount (isDate today) 1 _ _
@@ -92,13 +92,13 @@ on-agrees n today few held a =
     (λ h. then-agree CloseAmount (firstCouponEnd n) _ _ (λ end e. from-agrees n today few held a dt (running (n .«issue_date») end) (first-begun n today end (a .issued) dt h e))))
 
 -- the bound, on every note and every day
-pub accrued-agrees : (n : Note) (today : Date) → n .denomination ≤ 1000000 → T (fits binary64 (n .rate)) → Agree CloseAmount (accrued inBits n today) (accrued exactly n today)
+pub accrued-agrees : (n : Note) (today : Date) → n .denomination ≤ 1000000 → T (fits binary64 (n .rate)) → Agree CloseAmount (accrued amountsInF64 n today) (accrued amountsExactly n today)
 unfolding accrued
 accrued-agrees n today few held =
-    then-agree CloseAmount (noteChecks true true n) (λ m. accruedOn inBits m today) (λ m. accruedOn exactly m today)
-    (λ m e. let k = passed true true n m e in subst (λ (o : Note). Agree CloseAmount (accruedOn inBits o today) (accruedOn exactly o today)) (k .itself) (on-agrees n today few held (k .note)))
+    then-agree CloseAmount (noteChecks true true n) (λ m. accruedOn amountsInF64 m today) (λ m. accruedOn amountsExactly m today)
+    (λ m e. let k = passed true true n m e in subst (λ (o : Note). Agree CloseAmount (accruedOn amountsInF64 o today) (accruedOn amountsExactly o today)) (k .itself) (on-agrees n today few held (k .note)))
 
 -- the bits of a result are all that is left to show
-pub promised : (n : Note) (today : Date) (r : YearFraction) → T (fits binary64 (n .rate)) → fractionOutcome r ≡ accrued inBits n today → AccruedPromise n today r
+pub promised : (n : Note) (today : Date) (r : YearFraction) → T (fits binary64 (n .rate)) → fractionOutcome r ≡ accrued amountsInF64 n today → AccruedPromise n today r
 promised n today r held e =
-    (e, λ few. subst (λ (o : Outcome Float). Agree CloseAmount o (accrued exactly n today)) (sym e) (accrued-agrees n today (omega (arith, few)) held))
+    (e, λ few. subst (λ (o : Outcome Float). Agree CloseAmount o (accrued amountsExactly n today)) (sym e) (accrued-agrees n today (omega (arith, few)) held))

@@ -21,11 +21,11 @@ use Rattle.day_count_conv.specs.declared.conventions.DayCountConv.{DayCountConv
 use Rattle.day_count_conv.specs.declared.conventions.DayCountConv.the-variants as conv
 use Rattle.day_adjust.specs.declared.DayAdjust.the-variants as rule
 use Rattle.cash_flow.specs.currency.Amounts.{isCapital, isCurrency}
-use Rattle.bond.specs.note.Notes.{isNoteNumber, isRate, periodChecks, termChecks, noteChecks, inYearOf, firstCouponEnd}
+use Rattle.bond.specs.note.Notes.{isNoteNumber, isCouponRate, periodChecks, termChecks, noteChecks, inYearOf, firstCouponEnd}
 use Rattle.bond.specs.declared.note.Note.{Note}
 use Rattle.calendar.proofs.dates.Examples.{on}
 use Rattle.bond.proofs.note.Examples.{every, numbered, euro, listed}
-use Rattle.accrued_interest.specs.note.Accrued.{nextPeriod, goesOn, periodHolding, amountDue, accruedIn, accruedFrom, accruedOn, accrued, inBits, exactly}
+use Rattle.accrued_interest.specs.note.Accrued.{nextPeriod, goesOn, periodHolding, amountDue, accruedIn, accruedFrom, accruedOn, accrued, amountsInF64, amountsExactly}
 use Rattle.coupon_date.proofs.Examples.{on as dayMonth}
 use Rattle.day_fraction.proofs.Examples.{fraction as over}
 
@@ -66,30 +66,30 @@ unrated = noteOf nan (on 2021 1 15) (on 2022 1 15) (dayMonth 15 7) (pos 6) conv.
 
 -- m: accrued on the listed note, 2021-04-15: 1000 x 4 / 100 x 180/360 x 90/181
 pub record Card : Type 0 where
-  pub m : accrued exactly listed (on 2021 4 15) ≡ given (over (pos 64800000) 6516000)
+  pub m : accrued amountsExactly listed (on 2021 4 15) ≡ given (over (pos 64800000) 6516000)
   pub reduced : 64800000 * 181 ≡ 1800 * 6516000
-  pub m-bits : accrued inBits listed (on 2021 4 15) ≡ given (ofBits binary64 0x4023e3b673fa57b1)
+  pub m-bits : accrued amountsInF64 listed (on 2021 4 15) ≡ given (ofBits binary64 0x4023e3b673fa57b1)
 
 pub card : Card
-unfolding isNoteNumber isRate isCapital isCurrency leap lengthIn monthLength yearLength daysBefore isDate isBefore isSame dayNumber couponDate existingDate periodChecks termChecks noteChecks inYearOf firstCouponEnd exactFraction bits impossible simpleFraction yearFraction nextPeriod goesOn walked periodHolding amountDue accruedIn accruedFrom accruedOn accrued add mul div ofInt ofBits
+unfolding isNoteNumber isCouponRate isCapital isCurrency leap lengthIn monthLength yearLength daysBefore isDate isBefore isSame dayNumber couponDate existingDate periodChecks termChecks noteChecks inYearOf firstCouponEnd exactFraction bits impossible simpleFraction yearFraction nextPeriod goesOn walked periodHolding amountDue accruedIn accruedFrom accruedOn accrued add mul div ofInt ofBits
 card = record { m = refl; reduced = refl; m-bits = refl }
 
 -- where nothing is accrued, and what comes before it
 pub record Zeros : Type 0 where
-  pub before-issue : accrued exactly long (on 2021 1 14) ≡ given (over (pos 0) 1)
-  pub before-issue-bits : accrued inBits long (on 2021 1 14) ≡ given (ofBits binary64 0)
-  pub on-issue : accrued exactly long (on 2021 1 15) ≡ given (over (pos 0) 6516000)
-  pub last-period : accrued exactly listed (on 2021 7 16) ≡ given (over (pos 0) 1)
-  pub past-the-last : accrued exactly listed (on 2030 1 1) ≡ given (over (pos 0) 1)
-  pub zero-before-fraction : accrued exactly twoMonths (on 2021 1 14) ≡ given (over (pos 0) 1)
-  pub fraction-on-issue : accrued exactly twoMonths (on 2021 1 15) ≡ refused 5
-  pub zero-before-walk : accrued exactly atTheEnd (on 9999 11 30) ≡ given (over (pos 0) 1)
-  pub walk-before-zero : accrued exactly atTheEnd (on 9999 12 31) ≡ refused 1
-  pub no-date : accrued exactly long (on 2021 2 29) ≡ refused 1
-  pub note-first : accrued exactly unrated (on 2021 2 29) ≡ refused 15
+  pub before-issue : accrued amountsExactly long (on 2021 1 14) ≡ given (over (pos 0) 1)
+  pub before-issue-bits : accrued amountsInF64 long (on 2021 1 14) ≡ given (ofBits binary64 0)
+  pub on-issue : accrued amountsExactly long (on 2021 1 15) ≡ given (over (pos 0) 6516000)
+  pub last-period : accrued amountsExactly listed (on 2021 7 16) ≡ given (over (pos 0) 1)
+  pub past-the-last : accrued amountsExactly listed (on 2030 1 1) ≡ given (over (pos 0) 1)
+  pub zero-before-fraction : accrued amountsExactly twoMonths (on 2021 1 14) ≡ given (over (pos 0) 1)
+  pub fraction-on-issue : accrued amountsExactly twoMonths (on 2021 1 15) ≡ refused 5
+  pub zero-before-walk : accrued amountsExactly atTheEnd (on 9999 11 30) ≡ given (over (pos 0) 1)
+  pub walk-before-zero : accrued amountsExactly atTheEnd (on 9999 12 31) ≡ refused 1
+  pub no-date : accrued amountsExactly long (on 2021 2 29) ≡ refused 1
+  pub note-first : accrued amountsExactly unrated (on 2021 2 29) ≡ refused 15
 
 pub zeros : Zeros
-unfolding isNoteNumber isRate isCapital isCurrency leap lengthIn monthLength yearLength daysBefore isDate isBefore isSame dayNumber monthDate couponDate existingDate fromZeroTo monthsLater monthsFrequency yearsFrequency frequencyOf periodChecks termChecks noteChecks inYearOf firstCouponEnd exactFraction impossible simpleFraction walkedFraction frequentFraction yearFraction nextPeriod goesOn walked periodHolding amountDue accruedIn accruedFrom accruedOn accrued
+unfolding isNoteNumber isCouponRate isCapital isCurrency leap lengthIn monthLength yearLength daysBefore isDate isBefore isSame dayNumber monthDate couponDate existingDate fromZeroTo monthsLater monthsFrequency yearsFrequency frequencyOf periodChecks termChecks noteChecks inYearOf firstCouponEnd exactFraction impossible simpleFraction walkedFraction frequentFraction yearFraction nextPeriod goesOn walked periodHolding amountDue accruedIn accruedFrom accruedOn accrued
 zeros =
     record {
       before-issue = refl;
@@ -107,11 +107,11 @@ zeros =
 
 -- an end belongs to the period it closes; and the first period rolls from the issue date: 1 + 15/91 quarters, not 1 + 15/92
 pub record Periods : Type 0 where
-  pub on-the-end : accrued exactly long (on 2021 7 15) ≡ given (over (pos 130320000) 6516000)
-  pub next-day : accrued exactly long (on 2021 7 16) ≡ given (over (pos 720000) 6624000)
-  pub third : accrued exactly long (on 2022 2 15) ≡ given (over (pos 22320000) 6516000)
-  pub rolled-from-issue : accrued exactly quarterly (on 2021 4 30) ≡ given (over (pos 44520000) 3822000)
+  pub on-the-end : accrued amountsExactly long (on 2021 7 15) ≡ given (over (pos 130320000) 6516000)
+  pub next-day : accrued amountsExactly long (on 2021 7 16) ≡ given (over (pos 720000) 6624000)
+  pub third : accrued amountsExactly long (on 2022 2 15) ≡ given (over (pos 22320000) 6516000)
+  pub rolled-from-issue : accrued amountsExactly quarterly (on 2021 4 30) ≡ given (over (pos 44520000) 3822000)
 
 pub periods : Periods
-unfolding isNoteNumber isRate isCapital isCurrency leap lengthIn monthLength yearLength daysBefore isDate isBefore isSame dayNumber monthDate couponDate existingDate fromZeroTo monthsLater monthsFrequency yearsFrequency frequencyOf periodChecks termChecks noteChecks inYearOf firstCouponEnd exactFraction impossible walked turnOn walkOn turnBack walkBack baseFrom shortParts firstPart lastPart toLast toEnd toFirst longParts partsFrom icmaParts simpleFraction walkedFraction frequentFraction yearFraction nextPeriod goesOn periodHolding amountDue accruedIn accruedFrom accruedOn accrued
+unfolding isNoteNumber isCouponRate isCapital isCurrency leap lengthIn monthLength yearLength daysBefore isDate isBefore isSame dayNumber monthDate couponDate existingDate fromZeroTo monthsLater monthsFrequency yearsFrequency frequencyOf periodChecks termChecks noteChecks inYearOf firstCouponEnd exactFraction impossible walked turnOn walkOn turnBack walkBack baseFrom shortParts firstPart lastPart toLast toEnd toFirst longParts partsFrom icmaParts simpleFraction walkedFraction frequentFraction yearFraction nextPeriod goesOn periodHolding amountDue accruedIn accruedFrom accruedOn accrued
 periods = record { on-the-end = refl; next-day = refl; third = refl; rolled-from-issue = refl }

@@ -1,8 +1,7 @@
 -- No second answer meets a promise.
 use Prim.Native.Nat.{ℕ}
 use mathlib.Core.Path.{_≡_, sym, _∙_}
-use lib.IntN.{ℤ, natAbs}
-use Rattle.outcome.proofs.Outcomes.{one-value}
+use lib.IntN.{ℤ}
 use Rattle.number_text.specs.length.NumberTexts.{TakesDecimal, TakesPadded, TakesSigned}
 
 pub one-decimal-length : (n r t : ℕ) → TakesDecimal n r → TakesDecimal n t → r ≡ t
@@ -13,6 +12,3 @@ one-padded-length width n r t p q = p ∙ sym q
 
 pub one-signed-length : (z : ℤ) (r t : ℕ) → TakesSigned z r → TakesSigned z t → r ≡ t
 one-signed-length z r t p q = p ∙ sym q
-
-pub one-magnitude : (n : ℤ) (r s : ℕ) → r ≡ natAbs n → s ≡ natAbs n → r ≡ s
-one-magnitude n r s p q = one-value r s p q

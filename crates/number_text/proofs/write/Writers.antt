@@ -10,8 +10,9 @@ use lib.Dec.{leb}
 use borrow.Author.Tests.{le-leb, lt-leb, leb-true}
 use Rattle.outcome.specs.Outcome.{given, refused, Numbered, pick}
 use Rattle.outcome.proofs.Outcomes.{given-injective, unless-given, unless-numbered}
-use Rattle.number_text.specs.write.Writing.{digits, places, decimalText, paddedText, isNegative, signText, signedText, rightAligned, put, Wrote, writtenLength, writtenBytes, Written}
+use Rattle.number_text.specs.write.Writing.{digits, places, decimalText, paddedText, signText, signedText, rightAligned, put, Wrote, writtenLength, writtenBytes, Written}
 use Rattle.number_text.proofs.length.Digits.{places-some, length-decimal, length-padded}
+use Rattle.outcome.specs.Signs.{isNegative}
 use Rattle.number_text.proofs.length.Signs.{length-signed}
 use Rattle.number_text.proofs.write.Putting.{put-text, wrote-then}
 

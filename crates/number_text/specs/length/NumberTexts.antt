@@ -5,8 +5,9 @@ use mathlib.Core.Bool.{Bool, true, false}
 use mathlib.Core.List.{List, [], _∷_, _++_}
 use lib.Dec.{ltb}
 use lib.ListN.{length}
-use lib.IntN.{ℤ, pos, negsuc, natAbs}
+use lib.IntN.{ℤ, natAbs}
 use Rattle.outcome.specs.Outcome.{pick}
+use Rattle.outcome.specs.Signs.{isNegative}
 
 -- the last k decimal digits of n
 unfoldable pub digits : ℕ → ℕ → List ℕ
@@ -29,11 +30,6 @@ decimalText n = digits (places n) n
 -- the decimal of n with as many leading zeros as make it `width` digits long
 unfoldable pub paddedText : ℕ → ℕ → List ℕ
 paddedText width n = digits (max width (places n)) n
-
--- a number below zero
-abbrev pub isNegative : ℤ → Bool
-isNegative (pos n) = false
-isNegative (negsuc n) = true
 
 -- '-' for a negative number, and no sign else
 abbrev pub signText : Bool → List ℕ

@@ -6,7 +6,7 @@ use lib.Dec.{leb}
 use lib.ListN.{length, take, drop, replicate}
 use Rattle.outcome.specs.Outcome.{Outcome, given, refused, unless, andThen, passedAs, pick}
 unfoldable pub use Rattle.number_text.specs.length.NumberTexts.{digits, placesWithin, places, decimalText, paddedText, signedText}
-pub use Rattle.number_text.specs.length.NumberTexts.{isNegative, signText, TakesSigned}
+pub use Rattle.number_text.specs.length.NumberTexts.{signText, TakesSigned}
 use Rattle.number_text.specs.declared.write.LengthAnswer.{LengthAnswer}
 use Rattle.number_text.specs.declared.write.LengthAnswer.the-variants.{Length, Refused}
 

@@ -22,7 +22,7 @@ use Rattle.time_period.specs.declared.steps.TimePeriodUnit.the-variants as unit
 use Rattle.coupon_date.specs.Coupons.{couponDate}
 use Rattle.cash_flow.specs.currency.Amounts.{isCapital, isCurrency}
 use Rattle.cash_flow.specs.declared.flow.CashFlow.{CashFlow}
-use Rattle.bond.specs.note.Notes.{isNoteNumber, isRate, isPosition, periodChecks, termChecks, noteChecks, inYearOf, firstCouponEnd, couponAmount}
+use Rattle.bond.specs.note.Notes.{isNoteNumber, isCouponRate, isPosition, periodChecks, termChecks, noteChecks, inYearOf, firstCouponEnd, couponAmount}
 use Rattle.bond.specs.declared.note.Note.{Note}
 use Rattle.calendar.proofs.dates.Examples.{on}
 use Rattle.bond.proofs.note.Examples.{euro}
@@ -45,7 +45,7 @@ flow t x = record { date = t; currency = euro; amount = x }
 
 -- 2021-07-15 20, 2022-01-17 20, 2022-01-17 1000: the 15th of January 2022 is a Saturday
 pub the-listing : cashFlows notes.listed one [] ≡ given (flow (on 2021 7 15) twenty ∷ flow (on 2022 1 17) twenty ∷ flow (on 2022 1 17) thousand ∷ [])
-unfolding leap lengthIn monthLength yearLength daysBefore unitHolding isDate isDay dayNumber yearOf inYear theDate monthDate isBefore isSame dateOf weekdayOf fromZeroTo monthsLater existingDate ascendsFrom isTable isListed isWeekend isBusiness firstOf nextFrom lastOf prevFrom nextDate prevDate modifiedDate adjusted exactFraction bits impossible simpleFraction yearFraction couponDate isCapital isCurrency isNoteNumber isRate isPosition periodChecks termChecks noteChecks inYearOf firstCouponEnd couponAmount paid couponFlow laterFlows noteFlows cashFlows add mul div ofInt
+unfolding leap lengthIn monthLength yearLength daysBefore unitHolding isDate isDay dayNumber yearOf inYear theDate monthDate isBefore isSame dateOf weekdayOf fromZeroTo monthsLater existingDate ascendsFrom isTable isListed isWeekend isBusiness firstOf nextFrom lastOf prevFrom nextDate prevDate modifiedDate adjusted exactFraction bits impossible simpleFraction yearFraction couponDate isCapital isCurrency isNoteNumber isCouponRate isPosition periodChecks termChecks noteChecks inYearOf firstCouponEnd couponAmount paid couponFlow laterFlows noteFlows cashFlows add mul div ofInt
 the-listing = refl
 
 -- four places of room: three are written, and the fourth keeps its contents; two are too few
@@ -77,10 +77,10 @@ late =
     }
 
 pub past-the-room : fitted late one [] [] [] ≡ refused 1
-unfolding leap lengthIn monthLength yearLength daysBefore unitHolding isDate isDay dayNumber yearOf inYear theDate isBefore isSame dateOf weekdayOf fromZeroTo daysLater existingDate ascendsFrom isTable isListed isWeekend isBusiness firstOf nextFrom nextDate adjusted exactFraction bits impossible simpleFraction yearFraction couponDate isCapital isCurrency isNoteNumber isRate isPosition periodChecks termChecks noteChecks inYearOf firstCouponEnd couponAmount paid couponFlow laterFlows noteFlows cashFlows mul div ofInt
+unfolding leap lengthIn monthLength yearLength daysBefore unitHolding isDate isDay dayNumber yearOf inYear theDate isBefore isSame dateOf weekdayOf fromZeroTo daysLater existingDate ascendsFrom isTable isListed isWeekend isBusiness firstOf nextFrom nextDate adjusted exactFraction bits impossible simpleFraction yearFraction couponDate isCapital isCurrency isNoteNumber isCouponRate isPosition periodChecks termChecks noteChecks inYearOf firstCouponEnd couponAmount paid couponFlow laterFlows noteFlows cashFlows mul div ofInt
 past-the-room = refl
 
 -- and the note's own checks before its flows, whatever the room
 pub position-first : fitted late (fin false 1953125 (pos 10)) (5 ∷ 5 ∷ []) [] [] ≡ refused 15
-unfolding isPosition noteChecks isNoteNumber isRate cashFlows
+unfolding isPosition noteChecks isNoteNumber isCouponRate cashFlows
 position-first = refl

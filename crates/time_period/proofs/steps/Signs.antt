@@ -10,7 +10,7 @@ use mir.Syntax.{w32, w64}
 use mir.Val.{SFits, toZ, ofZ}
 use mir.Facts.{toZ-ofZ}
 use borrow.Author.Tests.{eqb-false, eq-eqb, ne-eqb, lt-ltb, ltb-true, ltb-false}
-use Rattle.number_text.specs.write.Writing.{isNegative}
+use Rattle.outcome.specs.Signs.{isNegative}
 use Rattle.business_days.specs.table.Business.{laterFrom, earlierFrom}
 use Rattle.time_period.specs.steps.Steps.{isLeast, businessDay}
 use Rattle.outcome.proofs.Numbers.{widened}

@@ -2,7 +2,7 @@
 use mathlib.Core.Path.{_≡_, sym, _∙_, ap}
 use borrow.Author.Needs.{needs}
 use Rattle.outcome.specs.Outcome.{Outcome, given, andThen}
-use Rattle.accrued_interest.specs.note.Accrued.{couponPeriodOutcome, periodHolding, accruedIn, accruedFrom, inBits}
+use Rattle.accrued_interest.specs.note.Accrued.{couponPeriodOutcome, periodHolding, accruedIn, accruedFrom, amountsInF64}
 use Rattle.accrued_interest.specs.declared.period.CouponPeriod.{CouponPeriod}
 use Rattle.accrued_interest.proofs.note.Walk.{holding-stops}
 use Rattle.accrued_interest.proofs.note.accrued_from.Statement.{statement}
@@ -30,13 +30,13 @@ returns : tie.Need-returns
 unfolding accruedFrom
 returns c =
     let s : tie.Start = c .before .before .before .before .before in
-    c .accrued-in .ensures ∙ sym (ap (λ (o : Outcome CouponPeriod). andThen o (accruedIn inBits (s .args .note) (s .args .today))) (held (c .before .before)))
+    c .accrued-in .ensures ∙ sym (ap (λ (o : Outcome CouponPeriod). andThen o (accruedIn amountsInF64 (s .args .note) (s .args .today))) (held (c .before .before)))
 
 returns-2 : tie.Need-returns-2
 unfolding accruedFrom
 returns-2 c =
     let s : tie.Start = c .before .before .before .before in
-    sym (ap (λ (o : Outcome CouponPeriod). andThen o (accruedIn inBits (s .args .note) (s .args .today))) (sym (c .before .before .before .period-holding .ensures) ∙ ap couponPeriodOutcome (c .before .n .given .1)))
+    sym (ap (λ (o : Outcome CouponPeriod). andThen o (accruedIn amountsInF64 (s .args .note) (s .args .today))) (sym (c .before .before .before .period-holding .ensures) ∙ ap couponPeriodOutcome (c .before .n .given .1)))
 
 pub accrued-from-spec : {M : Type 1} → statement M
 accrued-from-spec =

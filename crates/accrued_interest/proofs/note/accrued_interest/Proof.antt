@@ -9,7 +9,7 @@ use Rattle.day_count_conv.specs.declared.conventions.YearFraction.the-variants 
 use Rattle.bond.specs.note.Notes.{noteOutcome, noteChecks}
 use Rattle.bond.specs.declared.note.Note.{Note}
 use Rattle.bond.proofs.note.Ends.{passed}
-use Rattle.accrued_interest.specs.note.Accrued.{accruedOn, accrued, inBits}
+use Rattle.accrued_interest.specs.note.Accrued.{accruedOn, accrued, amountsInF64}
 use Rattle.accrued_interest.proofs.note.Bound.{promised}
 use Rattle.accrued_interest.proofs.note.accrued_interest.Statement.{statement}
 use Rattle.accrued_interest.proofs.note.accrued_interest.Tie as tie
@@ -41,14 +41,14 @@ unfolding accrued
 returns c =
     let s : tie.Start = c .before .before .before .before .before in
     promised (s .args .note) (s .args .today) (c .accrued-on .result) (rate-fits s)
-    (c .accrued-on .ensures ∙ sym (ap (λ (o : Outcome Note). andThen o (λ m. accruedOn inBits m (s .args .today))) (checked (c .before .before))))
+    (c .accrued-on .ensures ∙ sym (ap (λ (o : Outcome Note). andThen o (λ m. accruedOn amountsInF64 m (s .args .today))) (checked (c .before .before))))
 
 returns-2 : tie.Need-returns-2
 unfolding accrued
 returns-2 c =
     let s : tie.Start = c .before .before .before .before in
     promised (s .args .note) (s .args .today) (year-fraction.Refused (c .before .k .given .0 .0)) (rate-fits s)
-    (sym (ap (λ (o : Outcome Note). andThen o (λ m. accruedOn inBits m (s .args .today))) (sym (c .before .before .before .check-note .ensures) ∙ ap noteOutcome (c .before .k .given .1))))
+    (sym (ap (λ (o : Outcome Note). andThen o (λ m. accruedOn amountsInF64 m (s .args .today))) (sym (c .before .before .before .check-note .ensures) ∙ ap noteOutcome (c .before .k .given .1))))
 
 pub accrued-interest-spec : {M : Type 1} → statement M
 accrued-interest-spec =

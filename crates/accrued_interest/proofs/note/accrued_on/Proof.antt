@@ -7,7 +7,7 @@ use Rattle.outcome.specs.Outcome.{Outcome, andThen}
 use Rattle.calendar.specs.dates.Dates.{isDate, isBefore}
 use Rattle.calendar.specs.serial.Answers.{dateOutcome}
 use Rattle.calendar.specs.declared.dates.Date.{Date}
-use Rattle.accrued_interest.specs.note.Accrued.{running, accruedFrom, accruedOn, inBits}
+use Rattle.accrued_interest.specs.note.Accrued.{running, accruedFrom, accruedOn, amountsInF64}
 use Rattle.accrued_interest.proofs.note.Walk.{first-begun}
 use Rattle.accrued_interest.proofs.note.accrued_on.Statement.{statement}
 use Rattle.accrued_interest.proofs.note.accrued_on.Tie as tie
@@ -53,14 +53,14 @@ unfolding accruedOn
 returns-3 c =
     let e = c .before .before .before .before .before in
     let s : tie.Start = e .before .before .before .before .before in
-    rw (dated (e .before .before .before), issued e) (c .accrued-from .ensures ∙ sym (ap (λ (o : Outcome Date). andThen o (λ end. accruedFrom inBits (s .args .note) (s .args .today) (running (s .args .note .«issue_date») end))) (sym (c .before .before .before .before .first-coupon-end .ensures) ∙ ap dateOutcome (c .before .before .end .given .1))))
+    rw (dated (e .before .before .before), issued e) (c .accrued-from .ensures ∙ sym (ap (λ (o : Outcome Date). andThen o (λ end. accruedFrom amountsInF64 (s .args .note) (s .args .today) (running (s .args .note .«issue_date») end))) (sym (c .before .before .before .before .first-coupon-end .ensures) ∙ ap dateOutcome (c .before .before .end .given .1))))
 
 returns-4 : tie.Need-returns-4
 unfolding accruedOn
 returns-4 c =
     let e = c .before .before .before .before in
     let s : tie.Start = e .before .before .before .before .before in
-    rw (dated (e .before .before .before), issued e) (sym (ap (λ (o : Outcome Date). andThen o (λ end. accruedFrom inBits (s .args .note) (s .args .today) (running (s .args .note .«issue_date») end))) (sym (c .before .before .before .first-coupon-end .ensures) ∙ ap dateOutcome (c .before .n .given .1))))
+    rw (dated (e .before .before .before), issued e) (sym (ap (λ (o : Outcome Date). andThen o (λ end. accruedFrom amountsInF64 (s .args .note) (s .args .today) (running (s .args .note .«issue_date») end))) (sym (c .before .before .before .first-coupon-end .ensures) ∙ ap dateOutcome (c .before .n .given .1))))
 
 pub accrued-on-spec : {M : Type 1} → statement M
 accrued-on-spec =

@@ -23,7 +23,7 @@ next-flow-near-requires c κs = (c .before .before .before .before .pre, c .loop
 enum-known-step : tie.Need-enum-known-step Inv-loop μ-loop
 enum-known-step c = search needs
 
--- the next-flow pays
+-- the step pays
 module _ (c : tie.After-step Inv-loop μ-loop) where
   pays : Pays (c .before .before .before .before .before .before .before .args .note) (c .before .before .before .before .before .before .before .args .position) (c .before .before .before .before .before .before .before .args .table .now) (c .before .before .before .loop .due) (c .step .given .0 .1 .0) (c .step .given .0 .1 .1 .0) × (c .step .given .0 .0 ≡ flowDay (c .step .given .0 .1 .0))
   pays = subst (Turned _ _ _ (c .before .before .before .loop .due)) (c .step .given .1) (c .before .before .next-flow-near .ensures)

@@ -1,4 +1,4 @@
--- `note_flows::next-flow_near` meets its contract: what is owed for what comes makes the next-flow that is due.
+-- `note_flows::next_flow_near` meets its contract: what is owed for what comes makes the next flow that is due.
 use mathlib.Core.Path.{sym, _∙_, ap, subst}
 use Rattle.bond.proofs.note.Ends.{Accepted}
 use Rattle.note_flows.specs.schedule.Schedule.{Spanned, paymentOf}

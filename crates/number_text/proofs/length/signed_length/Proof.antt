@@ -7,7 +7,8 @@ use mir.Facts.{toZ-ofZ}
 use mir.Syntax.{w32}
 use borrow.Author.Needs.{needs}
 use Rattle.number_text.proofs.length.Digits.{decimal-within}
-use Rattle.number_text.proofs.length.Signs.{below-flag, signed-length-is}
+use Rattle.outcome.proofs.Signs.{below-flag}
+use Rattle.number_text.proofs.length.Signs.{signed-length-is}
 use Rattle.number_text.proofs.length.signed_length.Statement.{statement}
 use Rattle.number_text.proofs.length.signed_length.Tie as tie
 

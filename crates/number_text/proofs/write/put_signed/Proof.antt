@@ -3,7 +3,7 @@ use native.Mathlib.Omega.{arith}
 use mir.Facts.{toZ-ofZ}
 use mir.Syntax.{w32}
 use borrow.Author.Needs.{needs}
-use Rattle.number_text.proofs.length.Signs.{below-flag}
+use Rattle.outcome.proofs.Signs.{below-flag}
 use Rattle.number_text.proofs.write.Writers.{sign-room, decimal-room, signed-wrote}
 use Rattle.number_text.proofs.write.put_signed.Statement.{statement}
 use Rattle.number_text.proofs.write.put_signed.Tie as tie

@@ -1,4 +1,4 @@
--- `rollout::flow_at` meets its contract: a kept flow is the one that was judged, and of more the next-flow pays.
+-- `rollout::flow_at` meets its contract: a kept flow is the one that was judged, and of more the next flow pays.
 use mathlib.Core.Path.{subst}
 use Rattle.note_flows.specs.flows.Turns.{Turned}
 use Rattle.rollout.proofs.buffer.Kept.{kept-dated, came-kept, still-dated, must-pay, came-due}

@@ -1,4 +1,4 @@
--- `rollout::rollout_cash_flows` meets its contract: a walk of its code. The first pass is a call that answers; in a loop each next-flow is a call that pays, and its record is stored.
+-- `rollout::rollout_cash_flows` meets its contract: a walk of its code. The first pass is a call that answers; in a loop each turn is a call that pays, and its record is stored.
 use mathlib.Core.Path.{_≡_, refl, sym, ap, subst, _∙_}
 use Prim.Native.Nat.{ℕ, _<_, _^_, _*_, _+_, _-_}
 use native.Mathlib.Omega.{arith}
@@ -143,9 +143,9 @@ kept-lent E = tyRef erased mut (pointee (Kept E .written))
 abbrev kept-shared : RattleType → Ty
 kept-shared E = tyRef erased imm (pointee (Kept E .written))
 
--- the next-flow after its test
+-- the turn after its test
 abbrev body : Body
-body = rest-of (rest-of mir.next-flow-1)
+body = rest-of (rest-of mir.turn-1)
 
 module _ {M : Type 1} (𝓤 : URA M) (H : Heap 𝓤) (A : Atoms 𝓤) (mem : Memory → SProp 𝓤) (run : Routine → Fun 𝓤) where
   -- the contracts that the proof cites
@@ -342,7 +342,7 @@ module _ {M : Type 1} (𝓤 : URA M) (H : Heap 𝓤) (A : Atoms 𝓤) (W : Given
     said-written : (m : ℕ) → ent 𝓤 (ensured 𝓤 H A written.ended (written.clauses 𝓤 H A mem run) tt (r, tt) tt m) (fact 𝓤 (m ≡ value 0 (flowsOutcome r)))
     said-written m = exE 𝓤 _ (λ ws. snd∗ 𝓤 (sem 𝓤 H A (lasts written.ended tt (r, tt) ws)) (fact 𝓤 (m ≡ value 0 (flowsOutcome r))))
 
-    turns : (t : Upto) → Sq W (At t) (runs Cs Λ En mir.next-flow-1 (anyQ (Turned t)))
+    turns : (t : Upto) → Sq W (At t) (runs Cs Λ En mir.turn-1 (anyQ (Turned t)))
     unfolding afterTurn
     turns t =
         assigns ! (bin ! (load ! (from ! (stop !)) (look ! 25 refl)) (load ! (from ! (stop !)) (look ! 33 refl)) tt) (from ! (stop !)) (init ! 13 refl (tt, tt)) $

@@ -4,7 +4,7 @@ use lib.IntN.{natAbs}
 use mir.Facts.{toZ-ofZ}
 use borrow.Author.Needs.{needs}
 use Rattle.outcome.specs.Outcome.{Outcome, andThen}
-use Rattle.number_text.proofs.length.Signs.{below-flag}
+use Rattle.outcome.proofs.Signs.{below-flag}
 use Rattle.calendar.specs.serial.Answers.{dateOf}
 use Rattle.calendar.specs.declared.dates.Day.{Day}
 use Rattle.calendar.proofs.dates.Dates.{date-yes, number-from, number-to}

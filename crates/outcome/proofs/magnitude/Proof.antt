@@ -8,11 +8,11 @@ use mir.Facts.{toZ-ofZ}
 use mir.Val.{toZ, ofZ}
 use mir.Syntax.{w32, w64}
 use borrow.Author.Needs.{needs}
 use Rattle.outcome.proofs.Numbers.{widened, wide-fits}
-use Rattle.number_text.specs.length.NumberTexts.{isNegative}
-use Rattle.number_text.proofs.length.Signs.{abs-minus, minus-fits, minus-above, not-below, below-negative}
-use Rattle.number_text.proofs.length.magnitude.Statement.{statement}
-use Rattle.number_text.proofs.length.magnitude.Tie as tie
+use Rattle.outcome.specs.Signs.{isNegative}
+use Rattle.outcome.proofs.Signs.{abs-minus, minus-fits, minus-above, not-below, below-negative}
+use Rattle.outcome.proofs.magnitude.Statement.{statement}
+use Rattle.outcome.proofs.magnitude.Tie as tie
 
 -- the number taken from zero, read back from 64 bits
 taken : (c : tie.Start) → toZ w64 (ofZ w64 (pos 0 -ℤ toZ w64 (ofZ w64 (toZ w32 (ofZ w32 (c .args .n)))))) ≡ negℤ (c .args .n)

@@ -283,3 +283,16 @@ field-found s at w x before behind e l h =
     ap (λ (t : List ℕ). bitsNumber (take w t)) there
     ∙ ap bitsNumber (take-at (fieldBits w x) behind w (length-field w x))
     ∙ number-field w x h
+
+-- a wide field, read in two parts
+module _ (s : List ℕ) (at w h l : ℕ) (e : h ≡ field s at (w - 32)) (f : l ≡ field s (at + (w - 32)) 32) (from : 32 ≤ w) (to : w ≤ 64) (there : at + w ≤ 8 * length s) where
+  pub high-below : h < 4294967296
+  high-below = rw (e) (lt-of-lt-of-le (field-below s at (w - 32) (omega arith)) (pow-mono {j = 32} (omega arith)))
+
+  pub two-below : h * 4294967296 + l < 18446744073709551616
+  two-below = let m : l < 4294967296 = rw (f) (field-below s (at + (w - 32)) 32 (omega arith)) in omega (arith, high-below)
+
+  pub two-parts : h * 4294967296 + l ≡ field s at w
+  two-parts =
+      let k : w - 32 + 32 ≡ w = omega arith in
+      rw (e, f) (sym (field-join s at (w - 32) 32 (omega arith)) ∙ ap (field s at) k)

@@ -7,11 +7,10 @@ use mathlib.Core.Path.{_≡_, ap}
 use mathlib.Core.Bool.{true}
 use mathlib.Core.List.{List}
 use native.Mathlib.Omega.{arith}
-use lib.Dec.{ltb}
 use lib.IntN.{ℤ}
 use lib.Ieee.{Float}
 use Rattle.outcome.specs.Outcome.{Outcome, given, refused, andThen, passedAs, Numbered}
-use Rattle.outcome.proofs.Outcomes.{unless-numbered, then-numbered, passed-numbered}
+use Rattle.outcome.proofs.Outcomes.{then-numbered, passed-numbered}
 use Rattle.number_text.specs.write.Writing.{writtenLength}
 use Rattle.number_text.proofs.write.Writers.{written-numbered}
 use Rattle.decimal.specs.float.Decimal.{decimalShown}
@@ -28,9 +27,9 @@ use Rattle.time_period.proofs.added.OneOutcome.{add-numbered, sub-numbered}
 use Rattle.term_text.specs.period.PeriodTexts.{periodText}
 use Rattle.day_adjust.specs.Adjustment.{adjustDate}
 use Rattle.day_adjust.proofs.OneOutcome.{adjust-numbered}
-use Rattle.day_count_conv.specs.conventions.Conventions.{conventionOf, yearFraction, fractionsInF64, rolledFrom}
+use Rattle.day_count_conv.specs.conventions.Conventions.{yearFraction, fractionsInF64, rolledFrom}
 use Rattle.day_count_conv.specs.declared.conventions.NoteTerms.{NoteTerms}
-use Rattle.day_count_conv.proofs.conventions.OneOutcome.{fraction-numbered, convention-numbered}
+use Rattle.day_count_conv.proofs.conventions.OneOutcome.{fraction-numbered}
 use Rattle.cash_flow.specs.declared.currency.Currency.{Currency}
 use Rattle.cash_flow.specs.declared.flow.CashFlow.{CashFlow}
 use Rattle.flow_text.specs.flow.Texts.{flowShown}
@@ -39,7 +38,8 @@ use Rattle.bond.specs.note.Notes.{noteChecks}
 use Rattle.bond.specs.declared.note.Note.{Note}
 use Rattle.bond.specs.declared.limits.NoteNumber.{NoteNumber}
 use Rattle.bond.proofs.note.OneOutcome.{checks-numbered}
-use Rattle.packed_codes.specs.Codes.{unitOfCode}
+use Rattle.packed_codes.specs.Codes.{units, unitOfCode, conventions, conventionOfCode, adjustments, adjustmentOfCode}
+use Rattle.packed_codes.proofs.Codes.{place-numbered}
 use Rattle.packed_write.specs.packed.Writing.{packedNote}
 use Rattle.packed_write.proofs.packed.OneOutcome.{write-numbered}
 use Rattle.rollout.specs.plain.Rollout.{fitted}
@@ -53,7 +53,7 @@ use Rattle.rates.specs.simple.Rates.{discountFactor, discountedStream}
 use Rattle.rates.proofs.simple.OneOutcome.{factor-numbered, stream-numbered}
 use Rattle.c_values.specs.answers.HandOver.{HandsOver}
 use Rattle.c_values.proofs.answers.OneOutcome.{one-handed}
-use Rattle.c_values.specs.arguments.Numbers.{date, periodOfNumbers, adjustmentOf, flatRate, noteOf}
+use Rattle.c_values.specs.arguments.Numbers.{date, periodOfNumbers, flatRate, noteOf}
 use Rattle.c_face.specs.Rooms.{textIn, flowRooms, listedIn}
 
 -- ---- one outcome, by what is lent: `one-handed` and `one-number` of `c_values` for one number and
@@ -85,19 +85,15 @@ one-three-lists {A} {B} {C} {D} o r s k k₁ k₂ d d₁ d₂ c c₁ c₂ a a₁
 -- ---- every refusal has its number: of the codes, and then of what follows them
 
 pub period-numbered : (num : ℤ) (code : ℕ) → Numbered (periodOfNumbers num code)
-unfolding periodOfNumbers unitOfCode
-period-numbered num code = then-numbered (unitOfCode code) _ (unless-numbered (ltb code 5) 18 _ (omega arith) (omega arith)) (λ u. omega arith)
-
-pub adjustment-numbered : (code : ℕ) → Numbered (adjustmentOf code)
-unfolding adjustmentOf
-adjustment-numbered code = unless-numbered (ltb code 4) 18 _ (omega arith) (omega arith)
+unfolding periodOfNumbers
+period-numbered num code = then-numbered (unitOfCode code) _ (place-numbered units code) (λ u. omega arith)
 
 pub note-numbered : (number : NoteNumber) (issue maturity : Date) (coupon : CouponDate) (num : ℤ) (unit rule adjustment denomination : ℕ) (rate : Float) (c : Currency) → Numbered (noteOf number issue maturity coupon num unit rule adjustment denomination rate c)
 unfolding noteOf
 note-numbered number issue maturity coupon num unit rule adjustment denomination rate c =
     then-numbered (periodOfNumbers num unit) _ (period-numbered num unit)
-    (λ p. then-numbered (conventionOf rule) _ (convention-numbered rule)
-    (λ convention. then-numbered (adjustmentOf adjustment) _ (adjustment-numbered adjustment) (λ adjust. omega arith)))
+    (λ p. then-numbered (conventionOfCode rule) _ (place-numbered conventions rule)
+    (λ convention. then-numbered (adjustmentOfCode adjustment) _ (place-numbered adjustments adjustment) (λ adjust. omega arith)))
 
 -- text in lent bytes
 pub text-numbered : (d xs : List ℕ) → Numbered (textIn d xs)
@@ -132,21 +128,21 @@ module _ (num : ℤ) (unit : ℕ) where
   sub-face-numbered h t = of-period _ (λ p. sub-numbered p h t)
 
 -- what follows an adjustment or a rule
-pub adjust-face-numbered : (code : ℕ) (t : Date) (table : List ℕ) → Numbered (andThen (adjustmentOf code) (λ a. adjustDate a t table))
-adjust-face-numbered code t table = then-numbered (adjustmentOf code) _ (adjustment-numbered code) (λ a. adjust-numbered a t table)
+pub adjust-face-numbered : (code : ℕ) (t : Date) (table : List ℕ) → Numbered (andThen (adjustmentOfCode code) (λ a. adjustDate a t table))
+adjust-face-numbered code t table = then-numbered (adjustmentOfCode code) _ (place-numbered adjustments code) (λ a. adjust-numbered a t table)
 
-pub fraction-face-numbered : (rule : ℕ) (start end : Date) (x : NoteTerms) → Numbered (andThen (conventionOf rule) (λ c. yearFraction fractionsInF64 c start end x))
-fraction-face-numbered rule start end x = then-numbered (conventionOf rule) _ (convention-numbered rule) (λ c. fraction-numbered fractionsInF64 start end c x)
+pub fraction-face-numbered : (rule : ℕ) (start end : Date) (x : NoteTerms) → Numbered (andThen (conventionOfCode rule) (λ c. yearFraction fractionsInF64 c start end x))
+fraction-face-numbered rule start end x = then-numbered (conventionOfCode rule) _ (place-numbered conventions rule) (λ c. fraction-numbered fractionsInF64 start end c x)
 
-pub rolled-face-numbered : (rule : ℕ) (num : ℤ) (unit : ℕ) (start end roll : Date) → Numbered (andThen (conventionOf rule) (λ c. andThen (periodOfNumbers num unit) (λ p. yearFraction fractionsInF64 c start end (rolledFrom roll p))))
+pub rolled-face-numbered : (rule : ℕ) (num : ℤ) (unit : ℕ) (start end roll : Date) → Numbered (andThen (conventionOfCode rule) (λ c. andThen (periodOfNumbers num unit) (λ p. yearFraction fractionsInF64 c start end (rolledFrom roll p))))
 rolled-face-numbered rule num unit start end roll =
-    then-numbered (conventionOf rule) _ (convention-numbered rule) (λ c. of-period num unit _ (λ p. fraction-numbered fractionsInF64 start end c (rolledFrom roll p)))
+    then-numbered (conventionOfCode rule) _ (place-numbered conventions rule) (λ c. of-period num unit _ (λ p. fraction-numbered fractionsInF64 start end c (rolledFrom roll p)))
 
-pub factor-face-numbered : (rate : Float) (rule : ℕ) (c : Currency) (today pay : Date) → Numbered (andThen (conventionOf rule) (λ x. discountFactor (flatRate rate x c) today pay))
-factor-face-numbered rate rule c today pay = then-numbered (conventionOf rule) _ (convention-numbered rule) (λ x. factor-numbered (flatRate rate x c) today pay)
+pub factor-face-numbered : (rate : Float) (rule : ℕ) (c : Currency) (today pay : Date) → Numbered (andThen (conventionOfCode rule) (λ x. discountFactor (flatRate rate x c) today pay))
+factor-face-numbered rate rule c today pay = then-numbered (conventionOfCode rule) _ (place-numbered conventions rule) (λ x. factor-numbered (flatRate rate x c) today pay)
 
-pub stream-face-numbered : (rate : Float) (rule : ℕ) (c : Currency) (today : Date) (flows : List CashFlow) → Numbered (andThen (conventionOf rule) (λ x. discountedStream (flatRate rate x c) today flows))
-stream-face-numbered rate rule c today flows = then-numbered (conventionOf rule) _ (convention-numbered rule) (λ x. stream-numbered (flatRate rate x c) today flows)
+pub stream-face-numbered : (rate : Float) (rule : ℕ) (c : Currency) (today : Date) (flows : List CashFlow) → Numbered (andThen (conventionOfCode rule) (λ x. discountedStream (flatRate rate x c) today flows))
+stream-face-numbered rate rule c today flows = then-numbered (conventionOfCode rule) _ (place-numbered conventions rule) (λ x. stream-numbered (flatRate rate x c) today flows)
 
 -- what follows a note
 module _ (o : Outcome Note) (h : Numbered o) where

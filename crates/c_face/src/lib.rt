@@ -14,7 +14,7 @@ ghost use Rattle.coupon_date.specs.Coupons.{couponDate};
 ghost use Rattle.term_text.specs.coupon.CouponTexts.{couponText, couponDateText};
 ghost use Rattle.business_days.specs.days.Answers.{isBusinessDay, bdaysLater, bdaysEarlier};
 ghost use Rattle.day_adjust.specs.Adjustment.{adjustDate};
-ghost use Rattle.day_count_conv.specs.conventions.Conventions.{conventionOf, yearFraction, fractionsInF64, noTerms, rolledFrom};
+ghost use Rattle.day_count_conv.specs.conventions.Conventions.{yearFraction, fractionsInF64, noTerms, rolledFrom};
 ghost use Rattle.cash_flow.specs.round.RoundedAmounts.{round2digitsOf};
 ghost use Rattle.decimal.specs.float.Decimal.{decimalShown};
 ghost use Rattle.cash_flow.specs.flow.Flows.{sameFlows};
@@ -22,6 +22,7 @@ ghost use Rattle.flow_text.specs.flow.Texts.{flowShown};
 ghost use Rattle.bond.specs.note.Notes.{noteChecks};
 ghost use Rattle.rollout.specs.plain.Rollout.{fitted};
 ghost use Rattle.accrued_interest.specs.note.Accrued.{accrued, amountsInF64};
+ghost use Rattle.packed_codes.specs.Codes.{conventionOfCode, adjustmentOfCode};
 ghost use Rattle.packed_write.specs.packed.Writing.{packedNote};
 ghost use Rattle.note_listing.specs.note.Listing.{listing};
 ghost use Rattle.fixed_income.specs.plain.Plain.{plainFlows, shortest, listedWritten};
@@ -29,18 +30,18 @@ ghost use Rattle.rates.specs.simple.Rates.{discountFactor, discountedStream};
 ghost use Rattle.rates.specs.plain.Plain.{flowsOf};
 ghost use Rattle.c_values.specs.answers.HandOver.{HandsOver, yesNo};
 ghost use Rattle.c_values.specs.answers.Coded.{coded};
-ghost use Rattle.c_values.specs.arguments.Numbers.{serialDay, date, coupon, currency, flow, periodOfNumbers, adjustmentOf, flatRate, noteNumber, noteOf};
+ghost use Rattle.c_values.specs.arguments.Numbers.{serialDay, date, coupon, currency, flow, periodOfNumbers, flatRate, noteNumber, noteOf};
 ghost use Rattle.c_face.specs.Rooms.{textIn, flowRooms, listedIn};
 use bond::Note;
 use bond::NoteAnswer;
-use c_values::AdjustmentAnswer;
 use calendar::Date;
 use calendar::Day;
 use cash_flow::CashFlow;
 use cash_flow::Currency;
 use coupon_date::CouponDate;
-use day_count_conv::ConventionAnswer;
 use day_count_conv::DayCountConv;
+use packed_codes::AdjustmentAnswer;
+use packed_codes::ConventionAnswer;
 use rates::FlatRate;
 use time_period::PeriodAnswer;
 use time_period::TimePeriod;
@@ -291,9 +292,9 @@ pub extern "C" fn notes_adjust_date(
     to_month: &mut u32,
     to_day: &mut u32,
 ) -> u32
-    ensures { λ r. ⌜ HandsOver (andThen (adjustmentOf adjustment) (λ a. adjustDate a (date year month day) (now (holidays .entry)))) r (date (now («to_year» .entry)) (now («to_month» .entry)) (now («to_day» .entry))) (date (now («to_year» .exit)) (now («to_month» .exit)) (now («to_day» .exit))) ⌝ }
+    ensures { λ r. ⌜ HandsOver (andThen (adjustmentOfCode adjustment) (λ a. adjustDate a (date year month day) (now (holidays .entry)))) r (date (now («to_year» .entry)) (now («to_month» .entry)) (now («to_day» .entry))) (date (now («to_year» .exit)) (now («to_month» .exit)) (now («to_day» .exit))) ⌝ }
 {
-    match c_values::adjustment_of(adjustment) {
+    match packed_codes::adjustment_of_code(adjustment) {
         AdjustmentAnswer::Adjustment(a) => {
             let t = Date { year, month, day };
             let answer = day_adjust::adjust_date(a, t, holidays);
@@ -315,7 +316,7 @@ pub extern "C" fn notes_year_fraction(
     end_day: u32,
     fraction: &mut f64,
 ) -> u32
-    ensures { λ r. ⌜ HandsOver (andThen (conventionOf convention) (λ c. yearFraction fractionsInF64 c (date «start_year» «start_month» «start_day») (date «end_year» «end_month» «end_day») noTerms)) r (now (fraction .entry)) (now (fraction .exit)) ⌝ }
+    ensures { λ r. ⌜ HandsOver (andThen (conventionOfCode convention) (λ c. yearFraction fractionsInF64 c (date «start_year» «start_month» «start_day») (date «end_year» «end_month» «end_day») noTerms)) r (now (fraction .entry)) (now (fraction .exit)) ⌝ }
 {
     match packed_codes::convention_of_code(convention) {
         ConventionAnswer::Convention(c) => {
@@ -354,7 +355,7 @@ pub extern "C" fn notes_year_fraction_rolled(
     unit: u32,
     fraction: &mut f64,
 ) -> u32
-    ensures { λ r. ⌜ HandsOver (andThen (conventionOf convention) (λ c. andThen (periodOfNumbers num unit) (λ p. yearFraction fractionsInF64 c (date «start_year» «start_month» «start_day») (date «end_year» «end_month» «end_day») (rolledFrom (date «roll_year» «roll_month» «roll_day») p)))) r (now (fraction .entry)) (now (fraction .exit)) ⌝ }
+    ensures { λ r. ⌜ HandsOver (andThen (conventionOfCode convention) (λ c. andThen (periodOfNumbers num unit) (λ p. yearFraction fractionsInF64 c (date «start_year» «start_month» «start_day») (date «end_year» «end_month» «end_day») (rolledFrom (date «roll_year» «roll_month» «roll_day») p)))) r (now (fraction .entry)) (now (fraction .exit)) ⌝ }
 {
     match packed_codes::convention_of_code(convention) {
         ConventionAnswer::Convention(c) => match c_values::period_of(num, unit) {
@@ -768,7 +769,7 @@ pub extern "C" fn notes_discount_factor(
     pay_day: u32,
     factor: &mut f64,
 ) -> u32
-    ensures { λ r. ⌜ HandsOver (andThen (conventionOf convention) (λ c. discountFactor (flatRate rate c (currency c1 c2 c3)) (date «today_year» «today_month» «today_day») (date «pay_year» «pay_month» «pay_day»))) r (now (factor .entry)) (now (factor .exit)) ⌝ }
+    ensures { λ r. ⌜ HandsOver (andThen (conventionOfCode convention) (λ c. discountFactor (flatRate rate c (currency c1 c2 c3)) (date «today_year» «today_month» «today_day») (date «pay_year» «pay_month» «pay_day»))) r (now (factor .entry)) (now (factor .exit)) ⌝ }
 {
     match packed_codes::convention_of_code(convention) {
         ConventionAnswer::Convention(c) => {
@@ -806,7 +807,7 @@ pub extern "C" fn notes_discount_flows(
     today_day: u32,
     amount: &mut f64,
 ) -> u32
-    ensures { λ r. ⌜ HandsOver (andThen (conventionOf convention) (λ c. discountedStream (flatRate rate c (currency c1 c2 c3)) (date «today_year» «today_month» «today_day») (flowsOf (now (days .entry)) (now (currencies .entry)) (now (amounts .entry))))) r (now (amount .entry)) (now (amount .exit)) ⌝ }
+    ensures { λ r. ⌜ HandsOver (andThen (conventionOfCode convention) (λ c. discountedStream (flatRate rate c (currency c1 c2 c3)) (date «today_year» «today_month» «today_day») (flowsOf (now (days .entry)) (now (currencies .entry)) (now (amounts .entry))))) r (now (amount .entry)) (now (amount .exit)) ⌝ }
 {
     // The lists are serial days, currencies as numbers, and amounts.
     match packed_codes::convention_of_code(convention) {

@@ -1,26 +1,19 @@
-// What the numbers that come from C stand for: periods, adjustments and notes, by their codes.
+// What the numbers that come from C stand for: periods and notes, by their codes.
 ghost use mathlib.Core.Path.{_≡_};
 ghost use Rattle.time_period.specs.steps.Periods.{periodOutcome};
 ghost use Rattle.bond.specs.note.Notes.{noteOutcome};
-ghost use Rattle.c_values.specs.arguments.Numbers.{date, coupon, currency, periodOfNumbers, adjustmentOutcome, adjustmentOf, noteNumber, noteOf};
+ghost use Rattle.c_values.specs.arguments.Numbers.{date, coupon, currency, periodOfNumbers, noteNumber, noteOf};
 use bond::Note;
 use bond::NoteAnswer;
 use bond::NoteNumber;
 use calendar::Date;
 use cash_flow::Currency;
 use coupon_date::CouponDate;
-use day_adjust::DayAdjust;
-use day_count_conv::ConventionAnswer;
+use packed_codes::AdjustmentAnswer;
+use packed_codes::ConventionAnswer;
 use time_period::PeriodAnswer;
 use time_period::TimePeriod;
 use time_period::UnitAnswer;
-
-const LAST_ADJUSTMENT: u32 = 3;
-
-pub enum AdjustmentAnswer {
-    Adjustment(DayAdjust),
-    Refused(u32),
-}
 
 // Inner: the period of C's number and unit code; refused 18.
 pub fn period_of(num: i32, unit: u32) -> PeriodAnswer
@@ -30,17 +23,6 @@ pub fn period_of(num: i32, unit: u32) -> PeriodAnswer
         UnitAnswer::Unit(u) => PeriodAnswer::Period(TimePeriod { num, unit: u }),
         UnitAnswer::Refused(n) => PeriodAnswer::Refused(n),
     }
-}
-
-// Inner: the adjustment of C's code; refused 18.
-pub fn adjustment_of(code: u32) -> AdjustmentAnswer
-    ensures { λ r. ⌜ adjustmentOutcome r ≡ adjustmentOf code ⌝ }
-{
-    // A record has two bits for it, so that only here one can be too large.
-    if LAST_ADJUSTMENT < code {
-        return AdjustmentAnswer::Refused(outcome::MALFORMED_RECORD);
-    }
-    AdjustmentAnswer::Adjustment(packed_codes::adjustment_of_code(code))
 }
 
 // Inner: the note of C's numbers, its codes looked up in the order of the arguments; refused 18.
@@ -92,7 +74,7 @@ pub fn note_of(
     };
     match period_of(period_num, period_unit) {
         PeriodAnswer::Period(period) => match packed_codes::convention_of_code(rule) {
-            ConventionAnswer::Convention(c) => match adjustment_of(adjustment) {
+            ConventionAnswer::Convention(c) => match packed_codes::adjustment_of_code(adjustment) {
                 AdjustmentAnswer::Adjustment(a) => NoteAnswer::Note(Note {
                     number,
                     issue_date,

@@ -2,8 +2,6 @@
 pub mod answers;
 pub mod arguments;
 
-pub use arguments::AdjustmentAnswer;
-
 // Inner: for the crates of the register, which have judged what these ask for.
 pub use answers::hand_amount;
 pub use answers::hand_business;
@@ -21,6 +19,5 @@ pub use answers::hand_note_check;
 pub use answers::hand_period;
 pub use answers::hand_weekday;
 pub use answers::hand_yes_no;
-pub use arguments::adjustment_of;
 pub use arguments::note_of;
 pub use arguments::period_of;

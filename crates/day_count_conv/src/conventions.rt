@@ -16,7 +16,7 @@ use icma::PartsAnswer;
 use time_period::FrequencyAnswer;
 use time_period::TimePeriod;
 
-// The packed codes 0 to 5 stand in this order.
+// In the order of document 01's table.
 pub enum DayCountConv {
     Act365,
     Act360,
@@ -63,11 +63,6 @@ pub fn rolled_from(t: Date, p: TimePeriod) -> NoteTerms
     let roll = RollDate::Date(t);
     let period = RollPeriod::Period(p);
     NoteTerms { roll, period }
-}
-
-pub enum ConventionAnswer {
-    Convention(DayCountConv),
-    Refused(u32),
 }
 
 // Inner: a fraction by 30/360 or 30E/360, refused 9 where it is 0; asks for dates in order.

@@ -3,7 +3,6 @@ pub mod conventions;
 pub mod fractions;
 pub mod judged;
 
-pub use conventions::ConventionAnswer;
 pub use conventions::DayCountConv;
 pub use conventions::NoteTerms;
 pub use conventions::RollDate;

@@ -1,16 +1,23 @@
-// The packed codes of units and adjustments; `c_face` reads C's codes by them.
-// The packed codes of the day count conventions.
+// The packed codes of units, day counts and adjustments, both ways; `c_face` reads C's codes by them.
 ghost use mathlib.Core.Path.{_≡_};
-ghost use Rattle.packed_codes.specs.Codes.{unitOfCode, adjustmentOfCode, codeOfUnit};
+ghost use Rattle.packed_codes.specs.Codes.{unitOfCode, codeOfUnit, conventionOfCode, codeOfConvention, conventionOutcome, adjustmentOfCode, codeOfAdjustment, adjustmentOutcome};
 ghost use Rattle.time_period.specs.steps.Periods.{unitOutcome};
-ghost use Rattle.day_count_conv.specs.conventions.Conventions.{codeOf, ConventionPromise};
 use day_adjust::DayAdjust;
-use day_count_conv::ConventionAnswer;
 use day_count_conv::DayCountConv;
 use time_period::TimePeriodUnit;
 use time_period::UnitAnswer;
 
-// Inner: the unit of a packed code; 18: there is none.
+pub enum ConventionAnswer {
+    Convention(DayCountConv),
+    Refused(u32),
+}
+
+pub enum AdjustmentAnswer {
+    Adjustment(DayAdjust),
+    Refused(u32),
+}
+
+// Inner: for the crates of the register; 18: there is none.
 pub fn unit_of_code(code: u32) -> UnitAnswer
     ensures { λ r. ⌜ unitOutcome r ≡ unitOfCode code ⌝ }
 {
@@ -24,19 +31,6 @@ pub fn unit_of_code(code: u32) -> UnitAnswer
     }
 }
 
-// Inner: the adjustment of a packed code; two bits have no other code, so that any other is the last.
-pub fn adjustment_of_code(code: u32) -> DayAdjust
-    ensures { λ r. ⌜ r ≡ adjustmentOfCode code ⌝ }
-{
-    match code {
-        0 => DayAdjust::None,
-        1 => DayAdjust::Following,
-        2 => DayAdjust::Preceding,
-        _ => DayAdjust::Modified,
-    }
-}
-
-// Inner: a unit's packed code.
 pub fn code_of_unit(unit: TimePeriodUnit) -> u32
     ensures { λ r. ⌜ r ≡ codeOfUnit unit ⌝ }
 {
@@ -49,9 +43,8 @@ pub fn code_of_unit(unit: TimePeriodUnit) -> u32
     }
 }
 
-// The convention of a packed code; 18: there is none.
 pub fn convention_of_code(code: u32) -> ConventionAnswer
-    ensures { λ r. ⌜ ConventionPromise code r ⌝ }
+    ensures { λ r. ⌜ conventionOutcome r ≡ conventionOfCode code ⌝ }
 {
     match code {
         0 => ConventionAnswer::Convention(DayCountConv::Act365),
@@ -64,9 +57,8 @@ pub fn convention_of_code(code: u32) -> ConventionAnswer
     }
 }
 
-// Its packed code.
 pub fn code_of_convention(rule: DayCountConv) -> u32
-    ensures { λ r. ⌜ r ≡ codeOf rule ⌝ }
+    ensures { λ r. ⌜ r ≡ codeOfConvention rule ⌝ }
 {
     match rule {
         DayCountConv::Act365 => 0,
@@ -75,5 +67,28 @@ pub fn code_of_convention(rule: DayCountConv) -> u32
         DayCountConv::D30_360 => 3,
         DayCountConv::D30E360 => 4,
         DayCountConv::ActActICMA => 5,
+    }
+}
+
+pub fn adjustment_of_code(code: u32) -> AdjustmentAnswer
+    ensures { λ r. ⌜ adjustmentOutcome r ≡ adjustmentOfCode code ⌝ }
+{
+    match code {
+        0 => AdjustmentAnswer::Adjustment(DayAdjust::None),
+        1 => AdjustmentAnswer::Adjustment(DayAdjust::Following),
+        2 => AdjustmentAnswer::Adjustment(DayAdjust::Preceding),
+        3 => AdjustmentAnswer::Adjustment(DayAdjust::Modified),
+        _ => AdjustmentAnswer::Refused(outcome::MALFORMED_RECORD),
+    }
+}
+
+pub fn code_of_adjustment(rule: DayAdjust) -> u32
+    ensures { λ r. ⌜ r ≡ codeOfAdjustment rule ⌝ }
+{
+    match rule {
+        DayAdjust::None => 0,
+        DayAdjust::Following => 1,
+        DayAdjust::Preceding => 2,
+        DayAdjust::Modified => 3,
     }
 }

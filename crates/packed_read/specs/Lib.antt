@@ -1,4 +1,3 @@
-pub mod numbers
 pub mod table
 pub mod note
 pub mod packed

@@ -2,23 +2,24 @@
 ghost use mathlib.Core.Path.{_≡_};
 ghost use Prim.Native.Nat.{_+_, _-_, _*_, _/_, _^_, _≤_, _<_};
 ghost use lib.Dec.{ltb};
-ghost use Rattle.outcome.specs.Outcome.{pick, andThen};
-ghost use Rattle.packed_codes.specs.Codes.{unitOfCode};
+ghost use Rattle.outcome.specs.Outcome.{pick};
+ghost use Rattle.packed_layout.specs.NoteLayout.{Name, numberIn, NumbersFit};
 ghost use Rattle.packed_read.specs.note.Codes.{placeGood, digitsGood, digitsNumber, numberGood};
-ghost use Rattle.packed_read.specs.numbers.Numbers.{LettersFit, Fits};
-ghost use Rattle.packed_read.specs.note.Records.{currencyIn, periodIn, numberIn, noteWith, checkedUnit, NoteInPromise};
+ghost use Rattle.packed_read.specs.note.Records.{noteNumberIn, currencyIn, noteWith, noteFrom};
 ghost use Rattle.bond.specs.note.Notes.{noteOutcome, noteChecks};
 ghost use mathlib.Core.Bool.{true};
-use crate::numbers::Letters;
-use crate::numbers::Raw;
-use crate::numbers::Terms;
 use bond::NO_RATE;
 use bond::Note;
 use bond::NoteAnswer;
 use bond::NoteNumber;
+use calendar::Date;
 use cash_flow::Currency;
-use day_count_conv::ConventionAnswer;
+use coupon_date::CouponDate;
+use day_adjust::DayAdjust;
 use day_count_conv::DayCountConv;
+use packed_codes::AdjustmentAnswer;
+use packed_codes::ConventionAnswer;
+use packed_layout::FIELDS;
 use time_period::TimePeriod;
 use time_period::TimePeriodUnit;
 use time_period::UnitAnswer;
@@ -88,106 +89,115 @@ fn digits_number(count: u32, digits: u64) -> u64
     number
 }
 
-fn currency_in(letters: Letters) -> Currency
-    requires { ⌜ LettersFit letters ⌝ }
-    ensures { λ r. ⌜ r ≡ currencyIn letters ⌝ }
+fn number_in(numbers: [u64; FIELDS]) -> NoteNumber
+    requires { ⌜ NumbersFit numbers ⌝ }
+    ensures { λ r. ⌜ r ≡ noteNumberIn numbers ⌝ }
+{
+    let count = numbers[packed_layout::DIGIT_COUNT] as u32;
+    NoteNumber {
+        count,
+        digits: digits_number(count, numbers[packed_layout::DIGITS]),
+    }
+}
+
+fn currency_in(numbers: [u64; FIELDS]) -> Currency
+    requires { ⌜ NumbersFit numbers ⌝ }
+    ensures { λ r. ⌜ r ≡ currencyIn numbers ⌝ }
 {
     Currency {
-        first: (64 + letters.first) as u8,
-        second: (64 + letters.second) as u8,
-        third: (64 + letters.third) as u8,
-    }
-}
-
-fn period_in(terms: Terms, unit: TimePeriodUnit) -> TimePeriod
-    requires { ⌜ terms .number < 4096 ⌝ }
-    ensures { λ r. ⌜ r ≡ periodIn terms unit ⌝ }
-{
-    TimePeriod {
-        num: terms.number as i32,
-        unit,
-    }
-}
-
-fn number_in(raw: Raw) -> NoteNumber
-    ensures { λ r. ⌜ r ≡ numberIn raw ⌝ }
-{
-    NoteNumber {
-        count: raw.count,
-        digits: digits_number(raw.count, raw.digits),
+        first: (64 + numbers[packed_layout::FIRST_LETTER]) as u8,
+        second: (64 + numbers[packed_layout::SECOND_LETTER]) as u8,
+        third: (64 + numbers[packed_layout::THIRD_LETTER]) as u8,
     }
 }
 
 // Of bits that are a number's, neither a NaN's nor an infinity's.
-fn note_with(raw: Raw, unit: TimePeriodUnit, convention: DayCountConv) -> Note
-    requires { ⌜ (Fits raw) × (raw .rate < 9218868437227405312) ⌝ }
-    ensures { λ r. ⌜ r ≡ noteWith raw unit convention ⌝ }
+fn note_with(
+    numbers: [u64; FIELDS],
+    unit: TimePeriodUnit,
+    convention: DayCountConv,
+    rule: DayAdjust,
+) -> Note
+    requires { ⌜ (NumbersFit numbers) × (numberIn numbers Name.rate < 9218868437227405312) ⌝ }
+    ensures { λ r. ⌜ r ≡ noteWith numbers unit convention rule ⌝ }
 {
-    let issue_date = raw.issue;
-    let maturity = raw.maturity;
-    let coupon_date = raw.coupon;
-    let terms = raw.terms;
-    let letters = raw.letters;
     Note {
-        number: number_in(raw),
-        issue_date,
-        maturity,
-        coupon_date,
-        period: period_in(terms, unit),
+        number: number_in(numbers),
+        issue_date: Date {
+            year: numbers[packed_layout::ISSUE_YEAR] as u32,
+            month: numbers[packed_layout::ISSUE_MONTH] as u32,
+            day: numbers[packed_layout::ISSUE_DAY] as u32,
+        },
+        maturity: Date {
+            year: numbers[packed_layout::MATURITY_YEAR] as u32,
+            month: numbers[packed_layout::MATURITY_MONTH] as u32,
+            day: numbers[packed_layout::MATURITY_DAY] as u32,
+        },
+        coupon_date: CouponDate {
+            day: numbers[packed_layout::COUPON_DAY] as u32,
+            month: numbers[packed_layout::COUPON_MONTH] as u32,
+        },
+        period: TimePeriod {
+            num: numbers[packed_layout::NUMBER] as i32,
+            unit,
+        },
         day_count_convention: convention,
-        business_day_rule: packed_codes::adjustment_of_code(terms.adjustment),
-        denomination: raw.denomination,
-        rate: f64::from_bits(raw.rate),
-        currency: currency_in(letters),
+        business_day_rule: rule,
+        denomination: numbers[packed_layout::DENOMINATION] as u32,
+        rate: f64::from_bits(numbers[packed_layout::RATE]),
+        currency: currency_in(numbers),
     }
 }
 
 // Bits that are no number's are refused before they become an f64.
-fn checked(raw: Raw, unit: TimePeriodUnit, convention: DayCountConv, table: bool) -> NoteAnswer
-    requires { ⌜ (Fits raw) × (numberGood (raw .count) (raw .digits) ≡ true) ⌝ }
-    ensures { λ r. ⌜ noteOutcome r ≡ noteChecks true table (noteWith raw unit convention) ⌝ }
+fn checked(
+    numbers: [u64; FIELDS],
+    unit: TimePeriodUnit,
+    convention: DayCountConv,
+    rule: DayAdjust,
+    table: bool,
+) -> NoteAnswer
+    requires { ⌜ (NumbersFit numbers) × (numberGood (numberIn numbers Name.digitCount) (numberIn numbers Name.digits) ≡ true) ⌝ }
+    ensures { λ r. ⌜ noteOutcome r ≡ noteChecks true table (noteWith numbers unit convention rule) ⌝ }
 {
-    if NO_RATE <= raw.rate {
+    if NO_RATE <= numbers[packed_layout::RATE] {
         return NoteAnswer::Refused(outcome::NUMBER_OUT_OF_LIMITS);
     }
-    bond::check_note_with(note_with(raw, unit, convention), true, table)
+    bond::check_note_with(note_with(numbers, unit, convention, rule), true, table)
 }
 
-fn with_unit(raw: Raw, unit: TimePeriodUnit, table: bool) -> NoteAnswer
-    requires { ⌜ (Fits raw) × (numberGood (raw .count) (raw .digits) ≡ true) ⌝ }
-    ensures { λ r. ⌜ noteOutcome r ≡ checkedUnit table raw unit ⌝ }
+// Inner: of numbers that stood in their bits; what was found of the table behind them comes with them.
+pub(crate) fn note_from_numbers(numbers: [u64; FIELDS], table: bool) -> NoteAnswer
+    requires { ⌜ NumbersFit numbers ⌝ }
+    ensures { λ r. ⌜ noteOutcome r ≡ noteFrom table numbers ⌝ }
 {
-    let terms = raw.terms;
-    match packed_codes::convention_of_code(terms.convention) {
-        ConventionAnswer::Convention(convention) => checked(raw, unit, convention, table),
-        ConventionAnswer::Refused(n) => NoteAnswer::Refused(n),
+    if !number_good(
+        numbers[packed_layout::DIGIT_COUNT] as u32,
+        numbers[packed_layout::DIGITS],
+    ) {
+        return NoteAnswer::Refused(outcome::MALFORMED_RECORD);
     }
-}
-
-fn by_unit(raw: Raw, table: bool) -> NoteAnswer
-    requires { ⌜ (Fits raw) × (numberGood (raw .count) (raw .digits) ≡ true) ⌝ }
-    ensures { λ r. ⌜ noteOutcome r ≡ andThen (unitOfCode (raw .terms .unit)) (checkedUnit table raw) ⌝ }
-{
-    let terms = raw.terms;
-    match packed_codes::unit_of_code(terms.unit) {
-        UnitAnswer::Unit(unit) => with_unit(raw, unit, table),
+    if numbers[packed_layout::SPARE] != 0 {
+        return NoteAnswer::Refused(outcome::MALFORMED_RECORD);
+    }
+    match packed_codes::unit_of_code(numbers[packed_layout::UNIT] as u32) {
+        UnitAnswer::Unit(unit) => match packed_codes::convention_of_code(
+            numbers[packed_layout::DAY_COUNT] as u32,
+        ) {
+            ConventionAnswer::Convention(convention) => match packed_codes::adjustment_of_code(
+                numbers[packed_layout::ADJUSTMENT] as u32,
+            ) {
+                AdjustmentAnswer::Adjustment(rule) => checked(
+                    numbers,
+                    unit,
+                    convention,
+                    rule,
+                    table,
+                ),
+                AdjustmentAnswer::Refused(n) => NoteAnswer::Refused(n),
+            },
+            ConventionAnswer::Refused(n) => NoteAnswer::Refused(n),
+        },
         UnitAnswer::Refused(n) => NoteAnswer::Refused(n),
     }
-}
-
-// Inner: of numbers that stood in their bits; what a caller found of the bytes behind them comes with them.
-pub(crate) fn note_in(raw: Raw, whole: bool, table: bool) -> NoteAnswer
-    requires { ⌜ Fits raw ⌝ }
-    ensures { λ r. ⌜ NoteInPromise whole table raw r ⌝ }
-{
-    if !whole {
-        return NoteAnswer::Refused(outcome::MALFORMED_RECORD);
-    }
-    if !number_good(raw.count, raw.digits) {
-        return NoteAnswer::Refused(outcome::MALFORMED_RECORD);
-    }
-    if raw.spare != 0 {
-        return NoteAnswer::Refused(outcome::MALFORMED_RECORD);
-    }
-    by_unit(raw, table)
 }

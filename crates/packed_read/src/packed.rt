@@ -29,9 +29,9 @@ fn note_in_bytes(s: &[u8], days: &mut [u32]) -> NoteAnswer
         return NoteAnswer::Refused(outcome::MALFORMED_RECORD);
     }
     let n = crate::table::table_count(s);
-    let raw = crate::numbers::read_raw(s);
+    let numbers = packed_layout::read_numbers(s);
     let taken = crate::table::is_table_in(s, n, days);
-    crate::note::note_in(raw, true, taken)
+    crate::note::note_from_numbers(numbers, taken)
 }
 
 // The first n days; places past them keep their contents.

@@ -5,36 +5,39 @@ ghost use Prim.Native.Nat.{_+_, _*_, _≤_, _<_};
 ghost use lib.ListN.{length, take};
 ghost use Rattle.business_days.specs.table.Table.{ascendsFrom};
 ghost use Rattle.packed_read.specs.table.Tables.{tableCount, dayAt, daysFrom, isWhole, isTableIn};
+ghost use Rattle.packed_layout.specs.NoteLayout.{bitLength, byteLength};
 use business_days::MOST_HOLIDAYS;
 use calendar::LAST_DAY;
+use packed_layout::DAY_WIDTH;
+use packed_layout::TABLE_COUNT_WIDTH;
 
 // Inner: how many holidays the record says, of bytes that are there.
 pub(crate) fn table_count(s: &[u8]) -> usize
-    requires { ⌜ 32 ≤ length (now s) ⌝ }
+    requires { ⌜ byteLength 0 ≤ length (now s) ⌝ }
     ensures { λ r. ⌜ (r ≡ tableCount (now (s .entry))) × (r < 65536) ⌝ }
 {
-    bit_fields::read_field(s, 240, 16) as usize
+    bit_fields::read_field(s, packed_layout::note_bits(), TABLE_COUNT_WIDTH) as usize
 }
 
 fn day_at(s: &[u8], i: usize) -> u32
-    requires { ⌜ (i < 4096) × (278 + 22 * i ≤ 8 * length (now s)) ⌝ }
+    requires { ⌜ (i < 4096) × (bitLength (i + 1) ≤ 8 * length (now s)) ⌝ }
     ensures { λ r. ⌜ r ≡ dayAt (now (s .entry)) i ⌝ }
 {
-    bit_fields::read_field(s, 256 + 22 * i, 22) as u32
+    bit_fields::read_field(s, packed_layout::record_bits(i), DAY_WIDTH) as u32
 }
 
 // Inner: every byte is there, none is left over, and the bits behind the last day are zero; behind a count above 4,096 nothing is judged.
 pub(crate) fn is_whole(s: &[u8]) -> bool
     ensures { λ r. ⌜ r ≡ isWhole (now (s .entry)) ⌝ }
 {
-    if s.len() < 32 {
+    if s.len() < (packed_layout::record_bits(0) + 7) / 8 {
         return false;
     }
     let n = table_count(s);
     if MOST_HOLIDAYS < n {
         return true;
     }
-    let end = 256 + 22 * n;
+    let end = packed_layout::record_bits(n);
     if s.len() != (end + 7) / 8 {
         return false;
     }
@@ -43,7 +46,7 @@ pub(crate) fn is_whole(s: &[u8]) -> bool
 
 // The days in their order, each read once: false at the first that is not past the one before it, or not of the calendar.
 fn read_days(s: &[u8], n: usize, days: &mut [u32]) -> bool
-    requires { ⌜ (n ≤ 4096) × (256 + 22 * n ≤ 8 * length (now s)) × (n ≤ length (now days)) ⌝ }
+    requires { ⌜ (n ≤ 4096) × (bitLength n ≤ 8 * length (now s)) × (n ≤ length (now days)) ⌝ }
     ensures { λ r. ⌜ (r ≡ ascendsFrom 1 (daysFrom (now (s .entry)) 0 n)) × (r ≡ true → take n (now (days .exit)) ≡ daysFrom (now (s .entry)) 0 n) ⌝ }
 {
     let mut low: u32 = 1;

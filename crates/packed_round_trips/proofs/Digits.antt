@@ -10,8 +10,8 @@ use Rattle.outcome.specs.Outcome.{both}
 use Rattle.outcome.proofs.Outcomes.{both-true}
 use Rattle.packed_read.specs.note.Codes.{placeGood, digitsGood, digitsNumber}
 use Rattle.packed_read.proofs.note.Numbers.{used-place, unused-place, number-none, number-suc}
-use Rattle.packed_write.specs.raw.Codes.{digitsPlaces}
-use Rattle.packed_write.proofs.raw.Codes.{places-none, places-used, places-unused}
+use Rattle.packed_write.specs.numbers.Codes.{digitsPlaces}
+use Rattle.packed_write.proofs.numbers.Codes.{places-none, places-used, places-unused}
 
 -- ---- one place more
 

@@ -1,5 +1,5 @@
 pub mod Fields
-pub mod Pens
+pub mod Records
 pub mod Tables
 pub mod Answers
 pub mod OneOutcome

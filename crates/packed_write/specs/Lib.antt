@@ -1,2 +1,2 @@
-pub mod raw
+pub mod numbers
 pub mod packed

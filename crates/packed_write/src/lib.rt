@@ -1,5 +1,5 @@
 // A note with its holiday table, packed.
+pub mod numbers;
 pub mod packed;
-pub mod raw;
 
 pub use packed::write_note;

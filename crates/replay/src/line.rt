@@ -131,19 +131,13 @@ pub(crate) fn with_currency(row: Row, front: u8, c: Currency) -> Row {
     with(row, front, THREE_LETTERS, currency_number(c) as u64)
 }
 
-fn unit_code(unit: TimePeriodUnit) -> u32 {
-    match unit {
-        TimePeriodUnit::Daily => 0,
-        TimePeriodUnit::BusinessDaily => 1,
-        TimePeriodUnit::Weekly => 2,
-        TimePeriodUnit::Monthly => 3,
-        TimePeriodUnit::Annual => 4,
-    }
-}
-
 pub(crate) fn with_period(row: Row, p: TimePeriod) -> Row {
     let unit = p.unit;
-    with_number(with_signed(row, p.num), b' ', unit_code(unit) as u64)
+    with_number(
+        with_signed(row, p.num),
+        b' ',
+        packed_codes::code_of_unit(unit) as u64,
+    )
 }
 
 pub(crate) fn with_coupon(row: Row, c: CouponDate) -> Row {

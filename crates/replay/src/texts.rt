@@ -4,10 +4,10 @@ use crate::fields;
 use crate::lent;
 use crate::line;
 use crate::line::Row;
-use day_count_conv::ConventionAnswer;
 use number_text::LengthAnswer;
 use number_text::NumberAnswer;
 use number_text::SignedAnswer;
+use packed_codes::ConventionAnswer;
 use time_period::FrequencyAnswer;
 
 fn frequency(a: FrequencyAnswer) -> Row {

@@ -1,25 +1,20 @@
 -- What the numbers that come from C stand for. An unknown code is refused 18, in the
 -- order of the arguments, before anything else.
 use Prim.Native.Nat.{ℕ}
-use lib.Dec.{ltb}
 use lib.IntN.{ℤ}
 use lib.Ieee.{Float}
-use Rattle.outcome.specs.Outcome.{Outcome, given, refused, unless, andThen}
+use Rattle.outcome.specs.Outcome.{Outcome, given, andThen}
 use Rattle.calendar.specs.declared.dates.Day.{Day}
 use Rattle.calendar.specs.declared.dates.Date.{Date}
 use Rattle.coupon_date.specs.declared.CouponDate.{CouponDate}
 use Rattle.time_period.specs.declared.steps.TimePeriod.{TimePeriod}
-use Rattle.day_adjust.specs.declared.DayAdjust.{DayAdjust}
-use Rattle.day_count_conv.specs.conventions.Conventions.{conventionOf}
 use Rattle.day_count_conv.specs.declared.conventions.DayCountConv.{DayCountConv}
 use Rattle.cash_flow.specs.declared.currency.Currency.{Currency}
 use Rattle.cash_flow.specs.declared.flow.CashFlow.{CashFlow}
 use Rattle.rates.specs.declared.simple.FlatRate.{FlatRate}
 use Rattle.bond.specs.declared.limits.NoteNumber.{NoteNumber}
 use Rattle.bond.specs.declared.note.Note.{Note}
-use Rattle.c_values.specs.declared.arguments.AdjustmentAnswer.{AdjustmentAnswer}
-use Rattle.c_values.specs.declared.arguments.AdjustmentAnswer.the-variants as adjustment-answer
-use Rattle.packed_codes.specs.Codes.{unitOfCode, adjustmentOfCode}
+use Rattle.packed_codes.specs.Codes.{unitOfCode, conventionOfCode, adjustmentOfCode}
 
 -- numbers that need no code
 abbrev pub serialDay : ℕ → Day
@@ -41,15 +36,6 @@ flow t c x = record { date = t; currency = c; amount = x }
 unfoldable pub periodOfNumbers : ℤ → ℕ → Outcome TimePeriod
 periodOfNumbers num code = andThen (unitOfCode code) (λ u. given (record { num = num; unit = u }))
 
--- the outcome that an adjustment's answer is
-abbrev pub adjustmentOutcome : AdjustmentAnswer → Outcome DayAdjust
-adjustmentOutcome (adjustment-answer.Adjustment a) = given a
-adjustmentOutcome (adjustment-answer.Refused n) = refused n
-
--- an adjustment's packed code: none, following, preceding, modified = 0 to 3
-unfoldable pub adjustmentOf : ℕ → Outcome DayAdjust
-adjustmentOf code = unless (ltb code 4) 18 (given (adjustmentOfCode code))
-
 -- a rate to discount at
 abbrev pub flatRate : Float → DayCountConv → Currency → FlatRate
 flatRate rate rule c = record { rate = rate; «day_count_conv» = rule; currency = c }
@@ -58,8 +44,8 @@ flatRate rate rule c = record { rate = rate; «day_count_conv» = rule; currency
 unfoldable pub noteOf : NoteNumber → Date → Date → CouponDate → ℤ → ℕ → ℕ → ℕ → ℕ → Float → Currency → Outcome Note
 noteOf number issue maturity coupon num unit rule adjustment denomination rate c =
     andThen (periodOfNumbers num unit)
-    (λ p. andThen (conventionOf rule)
-    (λ convention. andThen (adjustmentOf adjustment)
+    (λ p. andThen (conventionOfCode rule)
+    (λ convention. andThen (adjustmentOfCode adjustment)
     (λ adjust. given (record {
       number = number;
       «issue_date» = issue;

@@ -10,7 +10,7 @@ use Rattle.date_step.specs.Steps.{fromZeroTo, monthsLater}
 use Rattle.time_period.specs.steps.Periods.{monthsFrequency, yearsFrequency, frequencyOf}
 use Rattle.day_fraction.specs.Fractions.{sinceJanuary, exactFraction, impossible}
 use Rattle.icma.specs.parts.Walk.{turnOn, walkOn, turnBack, walkBack, baseFrom, shortParts, firstPart, lastPart, toLast, toEnd, toFirst, longParts, partsFrom, icmaParts}
-use Rattle.day_count_conv.specs.conventions.Conventions.{simpleFraction, walkedFraction, frequentFraction, yearFraction, conventionOf, fractionsExactly}
+use Rattle.day_count_conv.specs.conventions.Conventions.{simpleFraction, walkedFraction, frequentFraction, yearFraction, fractionsExactly}
 use Rattle.time_period.specs.declared.steps.TimePeriodUnit.the-variants as unit
 use Rattle.day_count_conv.specs.declared.conventions.DayCountConv.the-variants as conv
 use Rattle.day_count_conv.specs.declared.conventions.RollDate.the-variants as roll-date
@@ -48,10 +48,9 @@ pub record Order : Type 0 where
   pub no-frequency : yearFraction fractionsExactly conv.ActActICMA (on 2021 1 1) (on 2021 3 1) (rolled (on 2021 1 1) (pos 0)) ≡ refused 5
   pub below-one : yearFraction fractionsExactly conv.ActActICMA (on 2021 1 1) (on 2021 3 1) (rolled (on 2021 1 1) (negsuc 2)) ≡ refused 14
   pub out-of-calendar : yearFraction fractionsExactly conv.ActActICMA (on 1 1 2) (on 1 1 3) (rolled (on 1 1 3) (pos 1)) ≡ refused 1
-  pub code-six : conventionOf 6 ≡ refused 18
 
 pub order : Order
-unfolding leap lengthIn monthLength yearLength daysBefore isDate isBefore isSame dayNumber monthDate fromZeroTo monthsLater monthsFrequency yearsFrequency frequencyOf sinceJanuary exactFraction impossible walked turnOn walkOn turnBack walkBack baseFrom shortParts firstPart lastPart toLast toEnd toFirst longParts partsFrom icmaParts simpleFraction walkedFraction frequentFraction yearFraction conventionOf
+unfolding leap lengthIn monthLength yearLength daysBefore isDate isBefore isSame dayNumber monthDate fromZeroTo monthsLater monthsFrequency yearsFrequency frequencyOf sinceJanuary exactFraction impossible walked turnOn walkOn turnBack walkBack baseFrom shortParts firstPart lastPart toLast toEnd toFirst longParts partsFrom icmaParts simpleFraction walkedFraction frequentFraction yearFraction
 order =
     record {
       start-first = refl;
@@ -63,7 +62,6 @@ order =
       no-frequency = refl;
       below-one = refl;
       out-of-calendar = refl;
-      code-six = refl;
     }
 
 -- where a step clips, the first broken part may be negative, and the whole may be 0 on two dates:

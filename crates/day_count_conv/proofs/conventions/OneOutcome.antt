@@ -1,14 +1,11 @@
--- No second answer satisfies an entry point's promise; a refusal's number is never 0; and codes and
--- conventions name each other.
-use Prim.Native.Nat.{ℕ}
+-- No second answer satisfies an entry point's promise; and a refusal's number is never 0.
 use mathlib.Core.Path.{_≡_, refl, sym, _∙_}
 use mathlib.Core.Bool.{not}
 use native.Mathlib.Omega.{arith}
-use lib.Dec.{ltb}
 use lib.IntN.{pos}
 use lib.Signed.{leZ}
 use Rattle.outcome.specs.Outcome.{given, Numbered, both}
-use Rattle.outcome.proofs.Outcomes.{unless-numbered, then-numbered, one-value, answerOf, one-answer}
+use Rattle.outcome.proofs.Outcomes.{unless-numbered, then-numbered, answerOf, one-answer}
 use Rattle.calendar.specs.dates.Dates.{isDate, isBefore}
 use Rattle.calendar.specs.declared.dates.Date.{Date}
 use Rattle.time_period.specs.steps.Periods.{frequencyOf}
@@ -17,7 +14,7 @@ use Rattle.day_fraction.specs.Fractions.{impossible}
 use Rattle.day_fraction.specs.declared.SimpleRule.{SimpleRule}
 use Rattle.icma.specs.parts.Walk.{icmaParts}
 use Rattle.icma.proofs.parts.Numbered.{parts-numbered}
-use Rattle.day_count_conv.specs.conventions.Conventions.{fractionOutcome, Values, codeOf, conventionOf, conventionOutcome, ConventionPromise, simpleFraction, walkedFraction, frequentFraction, icmaFraction, byRule, rollDated, yearFraction, FractionPromise}
+use Rattle.day_count_conv.specs.conventions.Conventions.{fractionOutcome, Values, simpleFraction, walkedFraction, frequentFraction, icmaFraction, byRule, rollDated, yearFraction, FractionPromise}
 use Rattle.day_count_conv.specs.declared.conventions.DayCountConv.{DayCountConv}
 use Rattle.day_count_conv.specs.declared.conventions.DayCountConv.the-variants as conv
 use Rattle.day_count_conv.specs.declared.conventions.RollDate.{RollDate}
@@ -27,20 +24,12 @@ use Rattle.day_count_conv.specs.declared.conventions.RollPeriod.the-vari
 use Rattle.day_count_conv.specs.declared.conventions.NoteTerms.{NoteTerms}
 use Rattle.day_count_conv.specs.declared.conventions.YearFraction.{YearFraction}
 use Rattle.day_count_conv.specs.declared.conventions.YearFraction.the-variants as year-fraction
-use Rattle.day_count_conv.specs.declared.conventions.ConventionAnswer.{ConventionAnswer}
-use Rattle.day_count_conv.specs.declared.conventions.ConventionAnswer.the-variants as convention-answer
 
 pub same-fraction-answer : (r s : YearFraction) → fractionOutcome r ≡ fractionOutcome s → r ≡ s
 same-fraction-answer r s e = one-answer fractionOutcome year-fraction.Fraction year-fraction.Refused (λ x. elim x as (λ y. answerOf year-fraction.Fraction year-fraction.Refused (fractionOutcome y) ≡ y) [ year-fraction.Fraction v ↦ refl | year-fraction.Refused n ↦ refl ]) r s e
 
-pub same-convention-answer : (r s : ConventionAnswer) → conventionOutcome r ≡ conventionOutcome s → r ≡ s
-same-convention-answer r s e = one-answer conventionOutcome convention-answer.Convention convention-answer.Refused (λ x. elim x as (λ y. answerOf convention-answer.Convention convention-answer.Refused (conventionOutcome y) ≡ y) [ convention-answer.Convention v ↦ refl | convention-answer.Refused n ↦ refl ]) r s e
-
 pub one-fraction : (rule : DayCountConv) (start end : Date) (x : NoteTerms) (r s : YearFraction) → FractionPromise rule start end x r → FractionPromise rule start end x s → r ≡ s
 one-fraction rule start end x r s p q = same-fraction-answer r s (p .0 ∙ sym (q .0))
-
-pub one-convention : (n : ℕ) (r s : ConventionAnswer) → ConventionPromise n r → ConventionPromise n s → r ≡ s
-one-convention n r s p q = same-convention-answer r s (p ∙ sym q)
 
 -- the number of a refusal, whatever the rules give
 module _ {A : Type 0} (v : Values A) (start end : Date) where
@@ -70,20 +59,3 @@ module _ {A : Type 0} (v : Values A) (start end : Date) where
   fraction-numbered rule x =
       unless-numbered (both (isDate start) (both (isDate end) (rollDated rule (x .roll)))) 1 _ (omega arith)
       (unless-numbered (not (isBefore end start)) 19 _ (omega arith) (rule-numbered rule x))
-
-pub convention-numbered : (n : ℕ) → Numbered (conventionOf n)
-unfolding conventionOf
-convention-numbered n = unless-numbered (ltb n 6) 18 _ (omega arith) (omega arith)
-
-pub one-code-of : (c : DayCountConv) (r s : ℕ) → r ≡ codeOf c → s ≡ codeOf c → r ≡ s
-one-code-of c r s p q = one-value r s p q
-
--- a convention's code is read back as that convention
-pub code-back : (c : DayCountConv) → conventionOf (codeOf c) ≡ given c
-unfolding conventionOf
-code-back conv.Act365 = refl
-code-back conv.Act360 = refl
-code-back conv.Act365l = refl
-code-back conv.D30_360 = refl
-code-back conv.D30E360 = refl
-code-back conv.ActActICMA = refl

@@ -2,9 +2,6 @@
 use Prim.Native.Nat.{ℕ, _*_, _≤_}
 use mathlib.Core.Path.{_≡_}
 use mathlib.Core.Bool.{Bool, true, not}
-use mathlib.Core.List.{List, [], _∷_}
-use lib.Dec.{ltb}
-use lib.ListN.{getD}
 use lib.IntN.{pos, _+ℤ_, _*ℤ_}
 use lib.Signed.{leZ}
 use lib.Ieee.{Float, binary64, add, mul, div, ofBits}
@@ -24,8 +21,6 @@ use Rattle.icma.specs.declared.parts.Parts.{Parts}
 use Rattle.icma.specs.declared.parts.Parts.the-variants.{Short, Long}
 use Rattle.day_count_conv.specs.declared.conventions.DayCountConv.{DayCountConv}
 use Rattle.day_count_conv.specs.declared.conventions.DayCountConv.the-variants as conv
-use Rattle.day_count_conv.specs.declared.conventions.ConventionAnswer.{ConventionAnswer}
-use Rattle.day_count_conv.specs.declared.conventions.ConventionAnswer.the-variants as convention-answer
 use Rattle.day_count_conv.specs.declared.conventions.YearFraction.{YearFraction}
 use Rattle.day_count_conv.specs.declared.conventions.YearFraction.the-variants as year-fraction
 use Rattle.day_count_conv.specs.declared.conventions.RollDate.{RollDate}
@@ -67,28 +62,6 @@ partsExact f (Long first last count) = sumExact (partExact first) (partExact las
 pub record Values (A : Type 0) : Type 0 where
   pub simple : SimpleRule → Date → Date → A
   pub walked : ℕ → Parts → A
-
--- packed codes, by the table's order, the two in row one as 0 and 1; any other is 18
-abbrev pub codeOf : DayCountConv → ℕ
-codeOf conv.Act365 = 0
-codeOf conv.Act360 = 1
-codeOf conv.Act365l = 2
-codeOf conv.D30_360 = 3
-codeOf conv.D30E360 = 4
-codeOf conv.ActActICMA = 5
-
-abbrev pub conventions : List DayCountConv
-conventions = conv.Act365 ∷ conv.Act360 ∷ conv.Act365l ∷ conv.D30_360 ∷ conv.D30E360 ∷ conv.ActActICMA ∷ []
-
-unfoldable pub conventionOf : ℕ → Outcome DayCountConv
-conventionOf n = unless (ltb n 6) 18 (given (getD conventions n conv.Act365))
-
-abbrev pub conventionOutcome : ConventionAnswer → Outcome DayCountConv
-conventionOutcome (convention-answer.Convention c) = given c
-conventionOutcome (convention-answer.Refused n) = refused n
-
-abbrev pub ConventionPromise : ℕ → ConventionAnswer → Type 0
-ConventionPromise n r = conventionOutcome r ≡ conventionOf n
 
 -- the five rules that two dates decide; 9: 30/360 or 30E/360 is zero on two different dates
 unfoldable pub simpleFraction : {A : Type 0} → Values A → SimpleRule → Date → Date → Outcome A

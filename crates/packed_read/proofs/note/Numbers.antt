@@ -6,6 +6,7 @@ use native.Mathlib.Nat.{pow-suc}
 use native.Mathlib.Omega.{arith}
 use borrow.Author.Tests.{lt-ltb, le-ltb, ltb-true, ltb-false, eqb-true}
 use lib.Dec.{T, ltb, leb}
+use mathlib.Core.List.{List}
 use lib.Ieee.{binary64, nanBits, isNan}
 use lib.Ieee.Bits.{nanBits-is}
 use Rattle.outcome.specs.Outcome.{pick, both}
@@ -13,9 +14,9 @@ use Rattle.outcome.proofs.Numbers.{between}
 use Rattle.outcome.proofs.Outcomes.{both-true}
 use Rattle.bond.specs.limits.Limits.{isNoteNumber}
 use Rattle.bond.proofs.limits.Limits.{low-bits}
+use Rattle.packed_layout.specs.NoteLayout.{Name, numberIn}
 use Rattle.packed_read.specs.note.Codes.{placeGood, digitsGood, digitsNumber, numberGood}
-use Rattle.packed_read.specs.note.Records.{numberIn}
-use Rattle.packed_read.specs.declared.numbers.Raw.{Raw}
+use Rattle.packed_read.specs.note.Records.{noteNumberIn}
 
 pub no-nan : (b : ℕ) → b < 9218868437227405312 → T (not (nanBits binary64 b))
 unfolding isNan
@@ -59,10 +60,12 @@ number-below c (suc k) n e = by (ltb k c) refl (good-parts c k n e) (number-belo
         let m : min (suc k) c ≡ min k c = omega arith in
         rw (number-suc c k n, t, m) h
 
-pub number-accepted : (r : Raw) → numberGood (r .count) (r .digits) ≡ true → isNoteNumber (numberIn r) ≡ true
+pub number-accepted : (ns : List ℕ) → numberGood (numberIn ns Name.digitCount) (numberIn ns Name.digits) ≡ true → isNoteNumber (noteNumberIn ns) ≡ true
 unfolding numberGood isNoteNumber
-number-accepted r e =
-    let parts = both-true (both (leb 1 (r .count)) (leb (r .count) 10)) (digitsGood (r .count) 10 (r .digits)) e in
-    let most = between 1 (r .count) 10 (parts .0) .1 in
-    let m : min 10 (r .count) ≡ r .count = omega arith in
-    rw (parts .0) (lt-ltb (digitsNumber (r .count) 10 (r .digits)) (10 ^ r .count) (subst (λ (j : ℕ). digitsNumber (r .count) 10 (r .digits) < 10 ^ j) m (number-below (r .count) 10 (r .digits) (parts .1))))
+number-accepted ns e =
+    let c : ℕ = numberIn ns Name.digitCount in
+    let d : ℕ = numberIn ns Name.digits in
+    let parts = both-true (both (leb 1 c) (leb c 10)) (digitsGood c 10 d) e in
+    let most = between 1 c 10 (parts .0) .1 in
+    let m : min 10 c ≡ c = omega arith in
+    rw (parts .0) (lt-ltb (digitsNumber c 10 d) (10 ^ c) (subst (λ (j : ℕ). digitsNumber c 10 d < 10 ^ j) m (number-below c 10 d (parts .1))))

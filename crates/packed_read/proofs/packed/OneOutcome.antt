@@ -7,8 +7,8 @@ use lib.Dec.{leb}
 use lib.ListN.{length}
 use Rattle.outcome.specs.Outcome.{Numbered}
 use Rattle.outcome.proofs.Outcomes.{unless-numbered, then-numbered, answerOf, one-answer}
-use Rattle.packed_read.specs.numbers.Numbers.{rawOf}
-use Rattle.packed_read.proofs.note.OneOutcome.{note-in-numbered}
+use Rattle.packed_layout.specs.NoteLayout.{noteNumbers}
+use Rattle.packed_read.proofs.note.OneOutcome.{note-numbered}
 use Rattle.packed_read.specs.table.Tables.{isWhole, isTableIn}
 use Rattle.packed_read.specs.packed.Notes.{noteInBytes, unpacked, readInto, packedOutcome, ReadNotePromise}
 use Rattle.packed_read.specs.declared.packed.PackedAnswer.{PackedAnswer}
@@ -23,7 +23,7 @@ one-read s old new other r t p q = (same-packed-answer r t (p .answer ∙ sym (q
 
 bytes-numbered : (s : List ℕ) → Numbered (noteInBytes s)
 unfolding noteInBytes
-bytes-numbered s = note-in-numbered (isWhole s) (isTableIn s) (rawOf s)
+bytes-numbered s = unless-numbered (isWhole s) 18 _ (omega arith) (note-numbered (isTableIn s) (noteNumbers s))
 
 pub read-numbered : (places : ℕ) (s : List ℕ) → Numbered (readInto places s)
 unfolding readInto unpacked

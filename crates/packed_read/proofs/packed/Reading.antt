@@ -4,19 +4,14 @@ use mathlib.Core.Path.{_≡_, sym, ap, _∙_}
 use mathlib.Core.Bool.{Bool, true, false}
 use mathlib.Core.List.{List, _++_}
 use borrow.Author.Tests.{le-leb, lt-leb, leb-true}
-use lib.Dec.{leb, eqb}
+use lib.Dec.{leb}
 use lib.ListN.{length, take, drop}
-use Rattle.outcome.specs.Outcome.{given, refused, unless, andThen, both}
-use Rattle.outcome.proofs.Outcomes.{both-true, unless-given, then-given}
-use Rattle.day_count_conv.specs.conventions.Conventions.{conventionOf}
-use Rattle.bond.specs.note.Notes.{noteChecks}
+use Rattle.outcome.specs.Outcome.{given, refused, unless}
+use Rattle.outcome.proofs.Outcomes.{both-true, unless-given}
 use Rattle.bond.specs.declared.note.Note.{Note}
-use Rattle.bond.proofs.note.Ends.{passed}
-use Rattle.packed_codes.specs.Codes.{unitOfCode}
-use Rattle.packed_read.specs.note.Codes.{numberGood}
-use Rattle.packed_read.specs.numbers.Numbers.{rawOf}
-use Rattle.packed_read.specs.note.Records.{noteWith, checkedUnit, noteIn}
-use Rattle.packed_read.specs.declared.numbers.Raw.{Raw}
+use Rattle.packed_layout.specs.NoteLayout.{noteNumbers}
+use Rattle.packed_read.specs.note.Records.{noteFrom}
+use Rattle.packed_read.proofs.note.Reading.{table-given}
 use Rattle.packed_read.specs.table.Tables.{tableCount, tableDays, isWhole, isTableIn}
 use Rattle.packed_read.proofs.table.Tables.{length-days}
 use Rattle.packed_read.specs.packed.Notes.{noteInBytes, unpacked, readInto, ReadNotePromise}
@@ -24,22 +19,11 @@ use Rattle.packed_read.specs.declared.packed.PackedAnswer.the-variants a
 
 -- ---- a note is given: its bytes are whole, and its table is taken
 
-unfoldable pub taken-in : (table : Bool) (r : Raw) (n : Note) → andThen (unitOfCode (r .terms .unit)) (checkedUnit table r) ≡ given n → table ≡ true
-unfolding checkedUnit
-taken-in table r n e =
-    let u = then-given (unitOfCode (r .terms .unit)) (checkedUnit table r) n e in
-    let c = then-given (conventionOf (r .terms .convention)) (λ c. noteChecks true table (noteWith r (u .0) c)) n (u .2) in
-    passed true table (noteWith r (u .0) (c .0)) n (c .2) .table-taken
-
-pub note-given : (whole table : Bool) (r : Raw) (n : Note) → noteIn whole table r ≡ given n → (whole ≡ true) × (table ≡ true)
-unfolding noteIn
-note-given whole table r n e =
-    let a = unless-given (both whole (both (numberGood (r .count) (r .digits)) (eqb (r .spare) 0))) 18 _ n e in
-    (both-true whole (both (numberGood (r .count) (r .digits)) (eqb (r .spare) 0)) (a .0) .0, taken-in table r n (a .1))
-
 pub bytes-given : (s : List ℕ) (n : Note) → noteInBytes s ≡ given n → (isWhole s ≡ true) × (isTableIn s ≡ true)
 unfolding noteInBytes
-bytes-given s n e = note-given (isWhole s) (isTableIn s) (rawOf s) n e
+bytes-given s n e =
+    let a = unless-given (isWhole s) 18 (noteFrom (isTableIn s) (noteNumbers s)) n e in
+    (a .0, table-given (isTableIn s) (noteNumbers s) n (a .1))
 
 pub few-days : (s : List ℕ) → isTableIn s ≡ true → tableCount s ≤ 4096
 unfolding isTableIn
@@ -48,12 +32,12 @@ few-days s e = leb-true (tableCount s) 4096 (both-true (leb (tableCount s) 4096)
 -- ---- the ways to answer
 
 pub bytes-short : (s : List ℕ) → isWhole s ≡ false → refused 18 ≡ noteInBytes s
-unfolding noteInBytes noteIn
+unfolding noteInBytes
 bytes-short s e = rw (e)
 
-pub bytes-whole : (s : List ℕ) (raw : Raw) (table : Bool) → isWhole s ≡ true → raw ≡ rawOf s → table ≡ isTableIn s → noteIn true table raw ≡ noteInBytes s
+pub bytes-whole : (s ns : List ℕ) (table : Bool) → isWhole s ≡ true → ns ≡ noteNumbers s → table ≡ isTableIn s → noteFrom table ns ≡ noteInBytes s
 unfolding noteInBytes
-bytes-whole s raw table e f g = rw (e, f, g)
+bytes-whole s ns table e f g = rw (e, f, g)
 
 into-given : (s : List ℕ) (n : Note) (places : ℕ) → noteInBytes s ≡ given n → readInto places s ≡ unless (leb (length (tableDays s)) places) 16 (given (record { note = n; days = tableDays s }))
 unfolding readInto unpacked

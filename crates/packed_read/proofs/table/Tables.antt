@@ -12,7 +12,8 @@ use Rattle.outcome.proofs.Outcomes.{both-true}
 use Rattle.bit_fields.specs.Bits.{field}
 use Rattle.business_days.specs.table.Table.{ascendsFrom, isTable}
 use Rattle.outcome.proofs.Filling.{Filled, filled-none, filled-more}
-use Rattle.packed_read.specs.table.Tables.{tableCount, dayAt, daysFrom, tableDays, bitLength, byteLength, isExact, isWhole, isTableIn}
+use Rattle.packed_layout.specs.NoteLayout.{bitLength, byteLength}
+use Rattle.packed_read.specs.table.Tables.{tableCount, dayAt, daysFrom, tableDays, isExact, isWhole, isTableIn}
 
 -- ---- its length
 

@@ -1,62 +1,50 @@
 -- The note that the numbers of a packed note are.
-use Prim.Native.Nat.{_+_}
-use mathlib.Core.Path.{_≡_}
+use Prim.Native.Nat.{ℕ, _+_}
 use mathlib.Core.Bool.{Bool, true}
+use mathlib.Core.List.{List}
 use lib.Dec.{eqb}
 use lib.IntN.{pos}
 use lib.Ieee.{binary64, ofBits}
 use Rattle.outcome.specs.Outcome.{Outcome, unless, andThen, both}
-use Rattle.time_period.specs.declared.steps.TimePeriod.{TimePeriod}
 use Rattle.time_period.specs.declared.steps.TimePeriodUnit.{TimePeriodUnit}
-use Rattle.day_count_conv.specs.conventions.Conventions.{conventionOf}
 use Rattle.day_count_conv.specs.declared.conventions.DayCountConv.{DayCountConv}
+use Rattle.day_adjust.specs.declared.DayAdjust.{DayAdjust}
 use Rattle.cash_flow.specs.declared.currency.Currency.{Currency}
-use Rattle.bond.specs.note.Notes.{noteOutcome, noteChecks}
+use Rattle.bond.specs.note.Notes.{noteChecks}
 use Rattle.bond.specs.declared.note.Note.{Note}
 use Rattle.bond.specs.declared.limits.NoteNumber.{NoteNumber}
-use Rattle.bond.specs.declared.note.NoteAnswer.{NoteAnswer}
-use Rattle.packed_codes.specs.Codes.{unitOfCode, adjustmentOfCode}
+use Rattle.packed_codes.specs.Codes.{unitOfCode, conventionOfCode, adjustmentOfCode}
+use Rattle.packed_layout.specs.NoteLayout.{Name, numberIn}
 use Rattle.packed_read.specs.note.Codes.{numberGood, digitsNumber}
-use Rattle.packed_read.specs.declared.numbers.Terms.{Terms}
-use Rattle.packed_read.specs.declared.numbers.Letters.{Letters}
-use Rattle.packed_read.specs.declared.numbers.Raw.{Raw}
-
--- a letter is its place in the alphabet: A = 1
-abbrev pub currencyIn : Letters → Currency
-currencyIn l = record { first = 64 + l .first; second = 64 + l .second; third = 64 + l .third }
-
--- the period's number is unsigned
-abbrev pub periodIn : Terms → TimePeriodUnit → TimePeriod
-periodIn t u = record { num = pos (t .number); unit = u }
 
 -- the note's number passes digit by digit
-abbrev pub numberIn : Raw → NoteNumber
-numberIn r = record { count = r .count; digits = digitsNumber (r .count) 10 (r .digits) }
+abbrev pub noteNumberIn : List ℕ → NoteNumber
+noteNumberIn ns = record { count = numberIn ns Name.digitCount; digits = digitsNumber (numberIn ns Name.digitCount) 10 (numberIn ns Name.digits) }
 
--- the note, of a unit and a day count that are known
-abbrev pub noteWith : Raw → TimePeriodUnit → DayCountConv → Note
-noteWith r u c = record {
-  number = numberIn r;
-  «issue_date» = r .issue;
-  maturity = r .maturity;
-  «coupon_date» = r .coupon;
-  period = periodIn (r .terms) u;
+-- a letter is its place in the alphabet: A = 1
+abbrev pub currencyIn : List ℕ → Currency
+currencyIn ns = record { first = 64 + numberIn ns Name.firstLetter; second = 64 + numberIn ns Name.secondLetter; third = 64 + numberIn ns Name.thirdLetter }
+
+-- the note, of a unit, a day count and an adjustment that are known; the period's number is unsigned
+abbrev pub noteWith : List ℕ → TimePeriodUnit → DayCountConv → DayAdjust → Note
+noteWith ns u c a = record {
+  number = noteNumberIn ns;
+  «issue_date» = record { year = numberIn ns Name.issueYear; month = numberIn ns Name.issueMonth; day = numberIn ns Name.issueDay };
+  maturity = record { year = numberIn ns Name.maturityYear; month = numberIn ns Name.maturityMonth; day = numberIn ns Name.maturityDay };
+  «coupon_date» = record { day = numberIn ns Name.couponDay; month = numberIn ns Name.couponMonth };
+  period = record { num = pos (numberIn ns Name.number); unit = u };
   «day_count_convention» = c;
-  «business_day_rule» = adjustmentOfCode (r .terms .adjustment);
-  denomination = r .denomination;
-  rate = ofBits binary64 (r .rate);
-  currency = currencyIn (r .letters);
+  «business_day_rule» = a;
+  denomination = numberIn ns Name.denomination;
+  rate = ofBits binary64 (numberIn ns Name.rate);
+  currency = currencyIn ns;
 }
 
--- order for a note: 18 for the codes, then the note's own checks
-unfoldable pub checkedUnit : Bool → Raw → TimePeriodUnit → Outcome Note
-checkedUnit table r u = andThen (conventionOf (r .terms .convention)) (λ c. noteChecks true table (noteWith r u c))
-
--- any other code, a nonzero spare bit, and bytes missing or left over are 18
-unfoldable pub noteIn : Bool → Bool → Raw → Outcome Note
-noteIn whole table r =
-    unless (both whole (both (numberGood (r .count) (r .digits)) (eqb (r .spare) 0))) 18
-    (andThen (unitOfCode (r .terms .unit)) (checkedUnit table r))
-
-abbrev pub NoteInPromise : Bool → Bool → Raw → NoteAnswer → Type 0
-NoteInPromise whole table r answer = noteOutcome answer ≡ noteIn whole table r
+-- any other code and a nonzero spare bit are 18; then the note's own checks
+unfoldable pub noteFrom : Bool → List ℕ → Outcome Note
+noteFrom table ns =
+    unless (both (numberGood (numberIn ns Name.digitCount) (numberIn ns Name.digits)) (eqb (numberIn ns Name.spare) 0)) 18
+    (andThen (unitOfCode (numberIn ns Name.unit))
+    (λ u. andThen (conventionOfCode (numberIn ns Name.dayCount))
+    (λ c. andThen (adjustmentOfCode (numberIn ns Name.adjustment))
+    (λ a. noteChecks true table (noteWith ns u c a)))))

@@ -6,8 +6,8 @@ use lib.Dec.{leb}
 use lib.ListN.{length, drop}
 use Rattle.outcome.specs.Outcome.{Outcome, given, refused, unless, andThen, passedAs}
 use Rattle.bond.specs.declared.note.Note.{Note}
-use Rattle.packed_read.specs.numbers.Numbers.{rawOf}
-use Rattle.packed_read.specs.note.Records.{noteIn}
+use Rattle.packed_layout.specs.NoteLayout.{noteNumbers}
+use Rattle.packed_read.specs.note.Records.{noteFrom}
 use Rattle.packed_read.specs.table.Tables.{tableDays, isWhole, isTableIn}
 use Rattle.packed_read.specs.declared.packed.PackedNote.{PackedNote}
 use Rattle.packed_read.specs.declared.packed.PackedAnswer.{PackedAnswer}
@@ -18,9 +18,9 @@ pub record Unpacked : Type 0 where
   pub note : Note
   pub days : List ℕ
 
--- what the bytes are: 18 and the note's checks in their order
+-- what the bytes are: 18 for bytes missing or left over, then the note in its bits
 unfoldable pub noteInBytes : List ℕ → Outcome Note
-noteInBytes s = noteIn (isWhole s) (isTableIn s) (rawOf s)
+noteInBytes s = unless (isWhole s) 18 (noteFrom (isTableIn s) (noteNumbers s))
 
 unfoldable pub unpacked : List ℕ → Outcome Unpacked
 unpacked s = andThen (noteInBytes s) (λ n. given (record { note = n; days = tableDays s }))

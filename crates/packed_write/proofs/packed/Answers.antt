@@ -14,7 +14,7 @@ use Rattle.business_days.specs.table.Table.{isTable}
 use Rattle.bond.specs.note.Notes.{noteChecks}
 use Rattle.bond.specs.declared.note.Note.{Note}
 use Rattle.bond.proofs.note.Ends.{passed}
-use Rattle.packed_write.specs.raw.Fits.{Packable}
+use Rattle.packed_write.specs.numbers.Packable.{Packable}
 use Rattle.packed_write.specs.packed.Fields.{recordBytes}
 use Rattle.packed_write.specs.packed.Writing.{packedNote, WritePromise}
 

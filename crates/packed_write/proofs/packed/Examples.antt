@@ -19,8 +19,8 @@ use Rattle.bond.specs.note.Example.{exampleNote as listed}
 use Rattle.bond.proofs.note.Examples.{every, numbered}
 use Rattle.time_period.specs.declared.steps.TimePeriod.{TimePeriod}
 use Rattle.time_period.specs.declared.steps.TimePeriodUnit.the-variants as unit
-use Rattle.packed_write.specs.raw.Codes.{digitsPlaces}
-use Rattle.packed_write.specs.packed.Fields.{wholeBytes, rawBytes, recordBytes}
+use Rattle.packed_write.specs.numbers.Codes.{digitsPlaces}
+use Rattle.packed_write.specs.packed.Fields.{wholeBytes, numbersBytes, recordBytes}
 use Rattle.packed_write.specs.packed.Writing.{packedNote}
 
 -- the listed note, 00417, with another number and another period
@@ -39,7 +39,7 @@ pub record ByHand : Type 0 where
   pub holidays : recordBytes listed (738002 ∷ 738003 ∷ []) ≡ 80 ∷ 4 ∷ 23 ∷ 255 ∷ 255 ∷ behind (0 ∷ 2 ∷ 45 ∷ 11 ∷ 72 ∷ 180 ∷ 45 ∷ 48 ∷ [])
 
 pub by-hand : ByHand
-unfolding fieldBits continuedBits bytesOf digitsPlaces fieldsBits wholeBytes rawBytes toBits
+unfolding fieldBits continuedBits bytesOf digitsPlaces fieldsBits wholeBytes numbersBytes toBits
 by-hand = record { leading-zeros = refl; no-zeros = refl; holidays = refl }
 
 -- 18 comes before 14, 13 before 14, and a period of 4,095 is held

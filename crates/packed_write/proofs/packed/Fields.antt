@@ -7,12 +7,12 @@ use lib.ListN.{length, length-append}
 use Rattle.outcome.proofs.Lists.{every-append}
 use Rattle.bit_fields.specs.Bits.{fieldBits, fieldsBits, bitsOf, AreBytes}
 use Rattle.bit_fields.proofs.Bits.{Bit, AreBits, length-field, field-bits, length-fields, same-widths, length-bytes, bits-back, bytes-are}
-use Rattle.packed_read.specs.declared.numbers.Raw.{Raw}
-use Rattle.packed_write.specs.packed.Fields.{rawFields, tableFields, zerosBehind, wholeBytes, rawBytes}
+use Rattle.packed_layout.specs.NoteLayout.{noteFields, tableFields, bitLength, byteLength}
+use Rattle.packed_write.specs.packed.Fields.{zerosBehind, wholeBytes, numbersBytes}
 
--- a note and its table: 32 bytes and the days
-pub length-record : (r : Raw) (t : List ℕ) → length (fieldsBits (rawFields r ++ tableFields t)) ≡ 256 + 22 * length t
-length-record r t = omega (arith, length-fields (rawFields r ++ tableFields t), same-widths 22 t)
+-- a note and its table
+pub length-record : (ns t : List ℕ) → length (fieldsBits (noteFields ns ++ tableFields t)) ≡ bitLength (length t)
+length-record ns t = omega (arith, length-fields (noteFields ns ++ tableFields t), same-widths 22 t)
 
 -- ---- whole bytes
 
@@ -32,6 +32,6 @@ module _ (s : List ℕ) where
   unfolding wholeBytes
   whole-bytes h = bytes-are ((length s + 7) / 8) (s ++ fieldBits (zerosBehind (length s)) 0) (every-append Bit s (fieldBits (zerosBehind (length s)) 0) h (field-bits (zerosBehind (length s)) 0)) padded-length
 
-pub bytes-length : (r : Raw) (t : List ℕ) → length (rawBytes r t) ≡ (256 + 22 * length t + 7) / 8
-unfolding rawBytes
-bytes-length r t = whole-length (fieldsBits (rawFields r ++ tableFields t)) ∙ ap (λ (n : ℕ). (n + 7) / 8) (length-record r t)
+pub bytes-length : (ns t : List ℕ) → length (numbersBytes ns t) ≡ byteLength (length t)
+unfolding numbersBytes
+bytes-length ns t = whole-length (fieldsBits (noteFields ns ++ tableFields t)) ∙ ap (λ (n : ℕ). (n + 7) / 8) (length-record ns t)

@@ -17,8 +17,8 @@ convention-of-code-requires c κs = search needs
 enum-known-c : tie.Need-enum-known-c
 enum-known-c c = search needs
 
-adjustment-of-requires : tie.Need-adjustment-of-requires
-adjustment-of-requires c κs = search needs
+adjustment-of-code-requires : tie.Need-adjustment-of-code-requires
+adjustment-of-code-requires c κs = search needs
 
 enum-known-a : tie.Need-enum-known-a
 enum-known-a c = search needs
@@ -38,7 +38,7 @@ returns c =
     let p = c .before .before .before in
     let q = p .before .before .before .before in
     let s = q .before .before .before .before in
-    rw (← (rw (toZ-ofZ (s .before .fits .period-num)) at (s .period-of .ensures)), q .before .before .period .given .1, ← q .convention-of-code .ensures, p .before .before .c .given .1, ← p .adjustment-of .ensures, c .before .a .given .1)
+    rw (← (rw (toZ-ofZ (s .before .fits .period-num)) at (s .period-of .ensures)), q .before .before .period .given .1, ← q .convention-of-code .ensures, p .before .before .c .given .1, ← p .adjustment-of-code .ensures, c .before .a .given .1)
 
 returns-2 : tie.Need-returns-2
 unfolding noteOf
@@ -46,7 +46,7 @@ returns-2 c =
     let p = c .before .before .before in
     let q = p .before .before .before .before in
     let s = q .before .before .before .before in
-    rw (← (rw (toZ-ofZ (s .before .fits .period-num)) at (s .period-of .ensures)), q .before .before .period .given .1, ← q .convention-of-code .ensures, p .before .before .c .given .1, ← p .adjustment-of .ensures, c .before .n .given .1)
+    rw (← (rw (toZ-ofZ (s .before .fits .period-num)) at (s .period-of .ensures)), q .before .before .period .given .1, ← q .convention-of-code .ensures, p .before .before .c .given .1, ← p .adjustment-of-code .ensures, c .before .n .given .1)
 
 returns-3 : tie.Need-returns-3
 unfolding noteOf
@@ -69,7 +69,7 @@ note-of-spec =
     enum-known-period
     convention-of-code-requires
     enum-known-c
-    adjustment-of-requires
+    adjustment-of-code-requires
     enum-known-a
     enum-known-n
     enum-known-n-2

@@ -27,14 +27,14 @@ whole c = sym (c .before .is-whole .ensures) ∙ not-false _ (c .if1 .left)
 table-count-requires : tie.Need-table-count-requires
 table-count-requires c κs = whole-long (now (c .before .before .before .before .args .s)) (whole c)
 
-read-raw-requires : tie.Need-read-raw-requires
-read-raw-requires c κs = omega (arith, whole-long (now (c .before .before .before .before .before .args .s)) (whole (c .before)))
+read-numbers-requires : tie.Need-read-numbers-requires
+read-numbers-requires c κs = omega (arith, whole-long (now (c .before .before .before .before .before .args .s)) (whole (c .before)))
 
 is-table-in-requires : tie.Need-is-table-in-requires
 is-table-in-requires c κs = (whole (c .before .before .before), c .before .before .table-count .ensures .0, c .before .before .before .before .before .before .before .pre)
 
-note-in-requires : tie.Need-note-in-requires
-note-in-requires c κs = search needs
+note-from-numbers-requires : tie.Need-note-from-numbers-requires
+note-from-numbers-requires c κs = search needs
 
 same-length : tie.Need-same-length
 same-length c = search needs
@@ -44,7 +44,7 @@ returns-2 c =
     let b = c .before .before .before .before .before in
     let s = now (b .before .before .before .before .before .before .args .s) in
     let d = c .before .before .before .is-table-in in (
-      c .note-in .ensures ∙ bytes-whole s _ _ (whole (b .before .before)) (b .read-raw .ensures .0) (d .ensures .0),
+      c .note-from-numbers .ensures ∙ bytes-whole s _ _ (whole (b .before .before)) (b .read-numbers .ensures .0) (d .ensures .0),
       λ p. subst (λ (k : ℕ). take k (d .last .1 .1 .0) ≡ daysFrom s 0 k) (b .before .table-count .ensures .0) (d .ensures .1 (d .ensures .0 ∙ p .1)),
     )
 
@@ -55,8 +55,8 @@ note-in-bytes-spec =
     is-whole-requires
     returns
     table-count-requires
-    read-raw-requires
+    read-numbers-requires
     is-table-in-requires
-    note-in-requires
+    note-from-numbers-requires
     same-length
     returns-2)

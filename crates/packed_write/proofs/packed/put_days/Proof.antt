@@ -1,26 +1,27 @@
 -- `packed_write::put_days` meets its contract: after each turn the days so far are put.
 use Prim.Native.Nat.{ℕ, _-_, _*_, _≤_}
 use mathlib.Core.Path.{_≡_, refl}
-use mathlib.Core.List.{List}
+use mathlib.Core.List.{List, map}
 use native.Mathlib.Omega.{arith}
 use borrow.Author.Needs.{needs}
 use denote.Ref.{now}
 use lib.ListN.{length, take}
-use Rattle.packed_write.specs.packed.Fields.{dayFields}
-use Rattle.bit_fields.specs.Pens.{Drew}
-use Rattle.packed_write.proofs.packed.Pens.{drew-none, drew-day, all-days}
+use Rattle.bit_fields.specs.Bits.{inBits}
+use Rattle.bit_fields.specs.BitWriters.{FieldsPut}
+use Rattle.bit_fields.proofs.BitWriters.{put-none}
+use Rattle.packed_write.proofs.packed.Records.{put-day, put-days}
 use Rattle.packed_write.proofs.packed.Tables.{day-fits}
 use Rattle.packed_write.proofs.packed.put_days.Statement.{statement}
 use Rattle.packed_write.proofs.packed.put_days.Tie as tie
 
 abbrev Inv-loop : tie.InvT-loop
-Inv-loop table out₀ at₀ i₀ out at i = (i ≤ length table) × (Drew out₀ out at₀ at (22 * i) (dayFields (take i table)))
+Inv-loop table out₀ at₀ i₀ out at i = (i ≤ length table) × (FieldsPut out₀ out at₀ at (22 * i) (map (inBits 22) (take i table)))
 
 abbrev μ-loop : tie.MeasureT-loop
 μ-loop table out₀ at₀ i₀ out at i = length table - i
 
 loop-holds : tie.Need-loop-holds Inv-loop μ-loop
-loop-holds c = (omega arith, drew-none _ _ (c .before .before .pre .0 .0))
+loop-holds c = (omega arith, put-none _ _ (c .before .before .pre .0 .0))
 
 mul-put-field : tie.Need-mul-put-field Inv-loop μ-loop
 mul-put-field c = search needs
@@ -49,7 +50,7 @@ loop-again : tie.Need-loop-again Inv-loop μ-loop
 loop-again c =
     let l = c .before .before .before .before .before .before .loop in
     let s = c .before .before .before .before .before .before .before .before .before in
-    (omega arith, drew-day (now (s .args .table)) (l .i) _ (omega arith) refl (l .inv .1) (c .before .before .put-field .ensures))
+    (omega arith, put-day (now (s .args .table)) (l .i) _ (omega arith) refl (l .inv .1) (c .before .before .put-field .ensures))
 
 same-length : tie.Need-same-length Inv-loop μ-loop
 same-length c = c .before .loop .inv .1 .same-length
@@ -60,7 +61,7 @@ returns c =
     let s = c .before .before .before .before in
     let t : List ℕ = now (s .args .table) in
     let e : l .i ≡ length t = omega arith in
-    all-days t (l .i) e (l .inv .1)
+    put-days t (l .i) e (l .inv .1)
 
 pub put-days-spec : {M : Type 1} → statement M
 put-days-spec =

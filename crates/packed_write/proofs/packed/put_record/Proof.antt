@@ -4,12 +4,12 @@ use native.Mathlib.Omega.{arith}
 use borrow.Author.Needs.{needs}
 use denote.Ref.{now}
 use lib.Pow.{pow-pos}
-use Rattle.packed_write.proofs.packed.Pens.{record-wrote}
+use Rattle.packed_write.proofs.packed.Records.{record-wrote}
 use Rattle.packed_write.proofs.packed.put_record.Statement.{statement}
 use Rattle.packed_write.proofs.packed.put_record.Tie as tie
 
-put-raw-requires : tie.Need-put-raw-requires
-put-raw-requires c κs = search needs
+put-numbers-requires : tie.Need-put-numbers-requires
+put-numbers-requires c κs = search needs
 
 put-table-requires : tie.Need-put-table-requires
 put-table-requires c κs = search needs
@@ -20,7 +20,7 @@ sub-put-field c = search needs
 put-field-requires : tie.Need-put-field-requires
 put-field-requires c κs =
     let t = c .before .before .before .before .put-table .ensures in
-    let n = c .before .before .before .before .before .before .before .before .put-raw .ensures in
+    let n = c .before .before .before .before .before .before .before .before .put-numbers .ensures in
     (t .held, omega arith, pow-pos _, omega (arith, t .moved, t .same-length, t .held .0, n .moved, n .same-length))
 
 same-length : tie.Need-same-length
@@ -29,13 +29,13 @@ same-length c = search needs
 returns : tie.Need-returns
 returns c =
     let s = c .before .before .before .before .before .before .before .before .before .before .before .before .before .before .before in
-    record-wrote (s .args .raw) (now (s .args .table)) _ (c .before .before .before .before .before .before .before .before .before .before .before .put-raw .ensures) (c .before .before .before .before .before .before .before .put-table .ensures) (c .before .before .put-field .ensures) refl (s .pre .2)
+    record-wrote (s .args .numbers) (now (s .args .table)) _ (c .before .before .before .before .before .before .before .before .before .before .before .put-numbers .ensures) (c .before .before .before .before .before .before .before .put-table .ensures) (c .before .before .put-field .ensures) refl (s .pre .2)
 
 pub put-record-spec : {M : Type 1} → statement M
 put-record-spec =
     tie.close
     (tie.spec
-    put-raw-requires
+    put-numbers-requires
     put-table-requires
     sub-put-field
     put-field-requires

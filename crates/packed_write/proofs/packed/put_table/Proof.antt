@@ -2,7 +2,7 @@
 use native.Mathlib.Omega.{arith}
 use borrow.Author.Needs.{needs}
 use denote.Ref.{now}
-use Rattle.packed_write.proofs.packed.Pens.{drew-then}
+use Rattle.bit_fields.proofs.BitWriters.{put-then}
 use Rattle.business_days.proofs.table.Table.{table-most}
 use Rattle.packed_write.proofs.packed.put_table.Statement.{statement}
 use Rattle.packed_write.proofs.packed.put_table.Tie as tie
@@ -19,7 +19,7 @@ same-length : tie.Need-same-length
 same-length c = search needs
 
 returns : tie.Need-returns
-returns c = drew-then ((c .before .before .before .before .before .before .put-field .ensures)) (c .before .before .put-days .ensures)
+returns c = put-then ((c .before .before .before .before .before .before .put-field .ensures)) (c .before .before .put-days .ensures)
 
 pub put-table-spec : {M : Type 1} → statement M
 put-table-spec = tie.close (tie.spec put-field-requires put-days-requires same-length returns)

@@ -1,12 +1,13 @@
 -- `packed_write::write_judged` meets its contract: 16, or the whole record.
+use Prim.Native.Nat.{ℕ}
 use mathlib.Core.Path.{ap}
+use mathlib.Core.List.{List}
 use native.Mathlib.Omega.{arith}
 use borrow.Author.Needs.{needs}
 use denote.Ref.{now}
 use Rattle.number_text.proofs.write.Writers.{written-fits, written-refused, wrote-is}
-use Rattle.packed_read.specs.declared.numbers.Raw.{Raw}
-use Rattle.packed_write.specs.raw.Fields.{rawWith}
-use Rattle.packed_write.specs.packed.Fields.{rawBytes}
+use Rattle.packed_write.specs.numbers.Numbers.{numbersOf}
+use Rattle.packed_write.specs.packed.Fields.{numbersBytes}
 use Rattle.packed_write.proofs.packed.Fields.{bytes-length}
 use Rattle.business_days.proofs.table.Table.{table-most}
 use Rattle.packed_write.proofs.packed.write_judged.Statement.{statement}
@@ -18,10 +19,10 @@ record-length-requires c κs = let s = c .before .before in table-most (now (s .
 returns : tie.Need-returns
 returns c =
     let s = c .before .before .before .before in
-    written-refused (now (s .args .out)) _ (omega (arith, bytes-length (rawWith (s .args .note)) (now (s .args .table)), c .before .record-length .ensures, c .if1 .taken))
+    written-refused (now (s .args .out)) _ (omega (arith, bytes-length (numbersOf (s .args .note)) (now (s .args .table)), c .before .record-length .ensures, c .if1 .taken))
 
-raw-with-requires : tie.Need-raw-with-requires
-raw-with-requires c κs = search needs
+numbers-from-note-requires : tie.Need-numbers-from-note-requires
+numbers-from-note-requires c κs = search needs
 
 put-record-requires : tie.Need-put-record-requires
 put-record-requires c κs = search needs
@@ -33,8 +34,8 @@ returns-2 : tie.Need-returns-2
 returns-2 c =
     let s = c .before .before .before .before .before .before .before .before .before in
     let t = now (s .args .table) in
-    written-fits (now (s .args .out)) _ _ _ (wrote-is _ _ _ _ _ _ (c .before .before .put-record .ensures) (ap (λ (r : Raw). rawBytes r t) (c .before .before .before .before .raw-with .ensures .0)))
-    (omega (arith, bytes-length (rawWith (s .args .note)) t, c .before .before .before .before .before .before .record-length .ensures, c .before .before .before .before .before .if1 .left))
+    written-fits (now (s .args .out)) _ _ _ (wrote-is _ _ _ _ _ _ (c .before .before .put-record .ensures) (ap (λ (ns : List ℕ). numbersBytes ns t) (c .before .before .before .before .numbers-from-note .ensures .0)))
+    (omega (arith, bytes-length (numbersOf (s .args .note)) t, c .before .before .before .before .before .before .record-length .ensures, c .before .before .before .before .before .if1 .left))
 
 pub write-judged-spec : {M : Type 1} → statement M
 write-judged-spec =
@@ -42,7 +43,7 @@ write-judged-spec =
     (tie.spec
     record-length-requires
     returns
-    raw-with-requires
+    numbers-from-note-requires
     put-record-requires
     same-length
     returns-2)

@@ -41,7 +41,7 @@ CHAPTERS = [
     ("Flows after a date", ["fixed_income"]),
     (
         "Packed note",
-        ["bit_fields", "packed_codes", "packed_read", "packed_write", "packed_round_trips"],
+        ["bit_fields", "packed_codes", "packed_layout", "packed_read", "packed_write", "packed_round_trips"],
     ),
     ("Listing", ["note_listing"]),
     ("Text", ["number_text", "decimal", "term_text", "flow_text"]),

@@ -80,14 +80,20 @@ abbrev pub NumbersFit : List ℕ → Type 0
 NumbersFit ns = AllFit (noteFields ns)
 
 -- the table follows: count 16, days of 22 each
+abbrev pub countWidth : ℕ
+countWidth = 16
+
+abbrev pub dayWidth : ℕ
+dayWidth = 22
+
 abbrev pub countPlace : ℕ
 countPlace = total noteWidths
 
 abbrev pub dayPlace : ℕ → ℕ
-dayPlace i = countPlace + 16 + 22 * i
+dayPlace i = countPlace + countWidth + dayWidth * i
 
 abbrev pub tableFields : List ℕ → List Field
-tableFields table = inBits 16 (length table) ∷ map (inBits 22) table
+tableFields table = inBits countWidth (length table) ∷ map (inBits dayWidth) table
 
 -- the bits of a record with n holidays, and the bytes, zero bits to the byte
 abbrev pub bitLength : ℕ → ℕ

@@ -74,7 +74,7 @@ pub const THIRD_LETTER: usize = 18;
 pub const SPARE: usize = 19;
 
 // The table of holidays behind the note: its count, and each day.
-pub const TABLE_COUNT_WIDTH: usize = 16;
+pub const COUNT_WIDTH: usize = 16;
 
 pub const DAY_WIDTH: usize = 22;
 
@@ -103,7 +103,7 @@ pub fn record_bits(holidays: usize) -> usize
     requires { ⌜ holidays ≤ 4096 ⌝ }
     ensures { λ r. ⌜ r ≡ bitLength holidays ⌝ }
 {
-    note_bits() + TABLE_COUNT_WIDTH + DAY_WIDTH * holidays
+    note_bits() + COUNT_WIDTH + DAY_WIDTH * holidays
 }
 
 // Inner: of bytes that are enough, so that a record's length is judged once.

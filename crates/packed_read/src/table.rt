@@ -8,15 +8,15 @@ ghost use Rattle.packed_read.specs.table.Tables.{tableCount, dayAt, days
 ghost use Rattle.packed_layout.specs.NoteLayout.{bitLength, byteLength};
 use business_days::MOST_HOLIDAYS;
 use calendar::LAST_DAY;
+use packed_layout::COUNT_WIDTH;
 use packed_layout::DAY_WIDTH;
-use packed_layout::TABLE_COUNT_WIDTH;
 
 // Inner: how many holidays the record says, of bytes that are there.
 pub(crate) fn table_count(s: &[u8]) -> usize
     requires { ⌜ byteLength 0 ≤ length (now s) ⌝ }
     ensures { λ r. ⌜ (r ≡ tableCount (now (s .entry))) × (r < 65536) ⌝ }
 {
-    bit_fields::read_field(s, packed_layout::note_bits(), TABLE_COUNT_WIDTH) as usize
+    bit_fields::read_field(s, packed_layout::note_bits(), COUNT_WIDTH) as usize
 }
 
 fn day_at(s: &[u8], i: usize) -> u32

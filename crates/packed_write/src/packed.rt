@@ -8,7 +8,7 @@ ghost use Rattle.bit_fields.specs.Bits.{inBits};
 ghost use Rattle.bit_fields.specs.BitWriters.{Ready, FieldsPut};
 ghost use Rattle.number_text.specs.write.Writing.{Wrote, Written, lengthOutcome};
 ghost use Rattle.business_days.specs.table.Table.{isTable};
-ghost use Rattle.packed_layout.specs.NoteLayout.{NumbersFit, tableFields, byteLength};
+ghost use Rattle.packed_layout.specs.NoteLayout.{NumbersFit, countWidth, dayWidth, tableFields, byteLength};
 ghost use Rattle.packed_write.specs.numbers.Packable.{Packable};
 ghost use Rattle.packed_write.specs.packed.Fields.{numbersBytes, recordBytes};
 ghost use Rattle.packed_write.specs.packed.Writing.{WritePromise};
@@ -16,16 +16,16 @@ use bit_fields::BitWriter;
 use bond::Note;
 use bond::NoteAnswer;
 use number_text::LengthAnswer;
+use packed_layout::COUNT_WIDTH;
 use packed_layout::DAY_WIDTH;
 use packed_layout::FIELDS;
-use packed_layout::TABLE_COUNT_WIDTH;
 
 // The largest number that the 12 bits of a period hold.
 const MOST_NUMBER: i32 = 4095;
 
 fn put_days(writer: BitWriter, table: &[u32], out: &mut [u8]) -> BitWriter
-    requires { ⌜ (Ready writer (22 * length (now table)) (now out)) × (isTable (now table) ≡ true) ⌝ }
-    ensures { λ r. ⌜ FieldsPut (now (out .entry)) (now (out .exit)) writer r (22 * length (now (table .entry))) (map (inBits 22) (now (table .entry))) ⌝ }
+    requires { ⌜ (Ready writer (dayWidth * length (now table)) (now out)) × (isTable (now table) ≡ true) ⌝ }
+    ensures { λ r. ⌜ FieldsPut (now (out .entry)) (now (out .exit)) writer r (dayWidth * length (now (table .entry))) (map (inBits dayWidth) (now (table .entry))) ⌝ }
 {
     let mut at = writer;
     let mut i: usize = 0;
@@ -37,10 +37,10 @@ fn put_days(writer: BitWriter, table: &[u32], out: &mut [u8]) -> BitWriter
 }
 
 fn put_table(writer: BitWriter, table: &[u32], out: &mut [u8]) -> BitWriter
-    requires { ⌜ (Ready writer (16 + 22 * length (now table)) (now out)) × (isTable (now table) ≡ true) ⌝ }
-    ensures { λ r. ⌜ FieldsPut (now (out .entry)) (now (out .exit)) writer r (16 + 22 * length (now (table .entry))) (tableFields (now (table .entry))) ⌝ }
+    requires { ⌜ (Ready writer (countWidth + dayWidth * length (now table)) (now out)) × (isTable (now table) ≡ true) ⌝ }
+    ensures { λ r. ⌜ FieldsPut (now (out .entry)) (now (out .exit)) writer r (countWidth + dayWidth * length (now (table .entry))) (tableFields (now (table .entry))) ⌝ }
 {
-    let count = bit_fields::put_field(writer, table.len() as u64, TABLE_COUNT_WIDTH, out);
+    let count = bit_fields::put_field(writer, table.len() as u64, COUNT_WIDTH, out);
     put_days(count, table, out)
 }
 

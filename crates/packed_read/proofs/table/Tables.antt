@@ -17,13 +17,13 @@ use Rattle.packed_read.specs.table.Tables.{tableCount, dayAt, daysFrom, 
 
 -- ---- its length
 
-pub too-short : (s : List ℕ) → length s < 32 → false ≡ isWhole s
+pub too-short : (s : List ℕ) → length s < byteLength 0 → false ≡ isWhole s
 unfolding isWhole
-too-short s h = rw (lt-leb 32 (length s) h)
+too-short s h = rw (lt-leb (byteLength 0) (length s) h)
 
-pub too-many : (s : List ℕ) (n : ℕ) → n ≡ tableCount s → 32 ≤ length s → 4096 < n → true ≡ isWhole s
+pub too-many : (s : List ℕ) (n : ℕ) → n ≡ tableCount s → byteLength 0 ≤ length s → 4096 < n → true ≡ isWhole s
 unfolding isWhole
-too-many s n e h k = rw (le-leb 32 (length s) h, lt-leb (tableCount s) 4096 (rw (e) at k))
+too-many s n e h k = rw (le-leb (byteLength 0) (length s) h, lt-leb (tableCount s) 4096 (rw (e) at k))
 
 other-length : (s : List ℕ) (n : ℕ) → (length s ≡ byteLength n → ⊥) → false ≡ isExact s n
 unfolding isExact
@@ -33,22 +33,22 @@ right-length : (s : List ℕ) (n : ℕ) → length s ≡ byteLength n → isExac
 unfolding isExact
 right-length s n h = rw (eq-eqb (length s) (byteLength n) h)
 
-within : (s : List ℕ) → 32 ≤ length s → tableCount s ≤ 4096 → isWhole s ≡ isExact s (tableCount s)
+within : (s : List ℕ) → byteLength 0 ≤ length s → tableCount s ≤ 4096 → isWhole s ≡ isExact s (tableCount s)
 unfolding isWhole
-within s h k = rw (le-leb 32 (length s) h, le-leb (tableCount s) 4096 k)
+within s h k = rw (le-leb (byteLength 0) (length s) h, le-leb (tableCount s) 4096 k)
 
-pub not-exact : (s : List ℕ) (n : ℕ) → n ≡ tableCount s → 32 ≤ length s → n ≤ 4096 → (length s ≡ (256 + 22 * n + 7) / 8 → ⊥) → false ≡ isWhole s
+pub not-exact : (s : List ℕ) (n : ℕ) → n ≡ tableCount s → byteLength 0 ≤ length s → n ≤ 4096 → (length s ≡ byteLength n → ⊥) → false ≡ isWhole s
 not-exact s n e h k l = other-length s n l ∙ ap (isExact s) e ∙ sym (within s h (rw (e) at k))
 
-pub exact : (s : List ℕ) (n f : ℕ) → n ≡ tableCount s → 32 ≤ length s → n ≤ 4096 → length s ≡ (256 + 22 * n + 7) / 8 → f ≡ field s (256 + 22 * n) (length s * 8 - (256 + 22 * n)) → eqb f 0 ≡ isWhole s
+pub exact : (s : List ℕ) (n f : ℕ) → n ≡ tableCount s → byteLength 0 ≤ length s → n ≤ 4096 → length s ≡ byteLength n → f ≡ field s (bitLength n) (length s * 8 - bitLength n) → eqb f 0 ≡ isWhole s
 exact s n f e h k l g =
-    let m : 8 * length s - bitLength n ≡ length s * 8 - (256 + 22 * n) = omega arith in
+    let m : 8 * length s - bitLength n ≡ length s * 8 - bitLength n = omega arith in
     sym (within s h (rw (e) at k) ∙ ap (isExact s) (sym e) ∙ right-length s n l ∙ rw (g, m))
 
 -- what a whole record has
-pub whole-long : (s : List ℕ) → isWhole s ≡ true → 32 ≤ length s
+pub whole-long : (s : List ℕ) → isWhole s ≡ true → byteLength 0 ≤ length s
 unfolding isWhole
-whole-long s e = leb-true 32 (length s) (both-true (leb 32 (length s)) _ e .0)
+whole-long s e = leb-true (byteLength 0) (length s) (both-true (leb (byteLength 0) (length s)) _ e .0)
 
 exact-length : (s : List ℕ) (n : ℕ) → isExact s n ≡ true → length s ≡ byteLength n
 unfolding isExact
@@ -58,7 +58,7 @@ pub whole-length : (s : List ℕ) → isWhole s ≡ true → tableCount s ≤ 40
 whole-length s e k = exact-length s (tableCount s) (sym (within s (whole-long s e) k) ∙ e)
 
 -- its days are there
-pub days-there : (s : List ℕ) (n : ℕ) → isWhole s ≡ true → n ≡ tableCount s → n ≤ 4096 → 256 + 22 * n ≤ 8 * length s
+pub days-there : (s : List ℕ) (n : ℕ) → isWhole s ≡ true → n ≡ tableCount s → n ≤ 4096 → bitLength n ≤ 8 * length s
 days-there s n e f h =
     let l : length s ≡ byteLength (tableCount s) = whole-length s e (rw (f) at h) in
     omega arith

@@ -8,14 +8,14 @@ use Rattle.outcome.specs.Lists.{valuesFrom}
 use Rattle.outcome.specs.Outcome.{pick, both}
 use Rattle.bit_fields.specs.Bits.{field}
 use Rattle.business_days.specs.table.Table.{isTable}
-use Rattle.packed_layout.specs.NoteLayout.{countPlace, dayPlace, bitLength, byteLength}
+use Rattle.packed_layout.specs.NoteLayout.{countWidth, dayWidth, countPlace, dayPlace, bitLength, byteLength}
 
 -- the table follows: count 16, days of 22 each
 abbrev pub tableCount : List ℕ → ℕ
-tableCount s = field s countPlace 16
+tableCount s = field s countPlace countWidth
 
 abbrev pub dayAt : List ℕ → ℕ → ℕ
-dayAt s i = field s (dayPlace i) 22
+dayAt s i = field s (dayPlace i) dayWidth
 
 -- n of them from day i on
 abbrev pub daysFrom : List ℕ → ℕ → ℕ → List ℕ

@@ -3,3 +3,4 @@ pub mod Order
 pub mod Inverse
 pub mod Examples
 pub mod OneOutcome
+pub mod Weekdays

@@ -39,7 +39,7 @@ module _ {S : Type 0} (more : S → Bool) (turn : S → Outcome S) where
     -- and each turn is nearer to the end by φ
     module _ (φ : S → ℕ) (leads : (s v : S) → P s → more s ≡ true → turn s ≡ given v → P v × (φ v < φ s)) where
       -- with turns enough, how many are allowed does not matter
-      enough : (j k : ℕ) (s : S) → P s → φ s < j → φ s < k → walked j more turn s ≡ walked k more turn s
+      pub enough : (j k : ℕ) (s : S) → P s → φ s < j → φ s < k → walked j more turn s ≡ walked k more turn s
       enough zero k s p h l = absurd (omega arith)
       enough (suc j) zero s p h l = absurd (omega arith)
       enough (suc j) (suc k) s p h l = by (more s) refl (turn s) refl (enough j k)

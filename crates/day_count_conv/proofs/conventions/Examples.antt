@@ -1,4 +1,5 @@
--- The desk card's fractions, and the refusals in their order, as theorems about the definitions.
+-- ICMA's main path, and the refusals in their order, as theorems about the definitions; the desk
+-- card's fractions stand in `desk_card`.
 use mathlib.Core.Path.{_≡_, refl}
 use lib.IntN.{ℤ, pos, negsuc}
 use Rattle.outcome.specs.Walks.{walked}
@@ -25,17 +26,11 @@ none = record { roll = roll-date.Absent; period = roll-period.Absent }
 abbrev rolled : Date → ℤ → NoteTerms
 rolled t n = record { roll = roll-date.Date t; period = roll-period.Period (record { num = n; unit = unit.Monthly }) }
 
--- g to k of the desk card, exactly
-pub record Card : Type 0 where
-  pub g : yearFraction fractionsExactly conv.D30_360 (on 2021 1 30) (on 2021 1 31) none ≡ refused 9
-  pub h : yearFraction fractionsExactly conv.D30_360 (on 2020 11 30) (on 2021 2 28) none ≡ given (over (pos 88) 360)
-  pub i-30-360 : yearFraction fractionsExactly conv.D30_360 (on 2021 1 15) (on 2021 3 31) none ≡ given (over (pos 76) 360)
-  pub i-30E-360 : yearFraction fractionsExactly conv.D30E360 (on 2021 1 15) (on 2021 3 31) none ≡ given (over (pos 75) 360)
-  pub k : yearFraction fractionsExactly conv.ActActICMA (on 2021 3 1) (on 2021 6 1) (rolled (on 2022 1 1) (pos 12)) ≡ given (over (pos 92) 365)
-
-pub card : Card
-unfolding leap lengthIn monthLength yearLength daysBefore isDate isBefore isSame dayNumber monthDate fromZeroTo monthsLater monthsFrequency yearsFrequency frequencyOf sinceJanuary exactFraction impossible walked turnOn walkOn turnBack walkBack baseFrom shortParts firstPart lastPart toLast toEnd toFirst longParts partsFrom icmaParts simpleFraction walkedFraction frequentFraction yearFraction
-card = record { g = refl; h = refl; i-30-360 = refl; i-30E-360 = refl; k = refl }
+-- ICMA's main path: whole periods and both broken parts. From 2020-02-29 to 2021-03-31, rolled by 3M
+-- from 2020-08-31: 1 + 3 + 31/89, or 387/89 quarters
+pub main-path : yearFraction fractionsExactly conv.ActActICMA (on 2020 2 29) (on 2021 3 31) (rolled (on 2020 8 31) (pos 3)) ≡ given (over (pos 387) 356)
+unfolding leap lengthIn monthLength yearLength daysBefore isDate isBefore isSame dayNumber monthDate fromZeroTo monthsLater monthsFrequency yearsFrequency frequencyOf walked turnOn walkOn turnBack walkBack baseFrom shortParts firstPart lastPart toLast toEnd toFirst longParts partsFrom icmaParts walkedFraction frequentFraction yearFraction
+main-path = refl
 
 -- the refusals in their order, and what other rules ignore
 pub record Order : Type 0 where

@@ -6,7 +6,7 @@ use mathlib.Core.Bool.{Bool, true, false}
 use native.Mathlib.Omega.{arith}
 use lib.IntN.{pos}
 use lib.Signed.{ltZ}
-use Rattle.outcome.proofs.Walks.{walk-turn, walk-all}
+use Rattle.outcome.proofs.Walks.{enough, walk-turn, walk-all}
 use Rattle.outcome.specs.Outcome.{Outcome, given, pick}
 use Rattle.outcome.proofs.Outcomes.{given-injective, then-given}
 use Rattle.calendar.specs.dates.Dates.{isDate, isBefore, dayNumber}
@@ -82,6 +82,17 @@ turn-back-leads p limit h w v d e =
     let s = step-leads p absent (w .at) (g .0) d (g .1) in
     let q : _≡_ {A = Walked} (record { at = g .0; count = pick (isBefore (g .0) limit) (w .count) (w .count + 1) }) v = given-injective (g .2) in
     rw (sym q) (record { dated = date-is (g .0) (s .dated); nearer = s .earlier h; counted = picked-more (isBefore (g .0) limit) (w .count) })
+
+-- the 3652060 looks of each walk are never used up: more would change nothing
+pub on-enough : (p : TimePeriod) (limit t : Date) (k : ℕ) → isDate t ≡ true → ltZ (pos 0) (p .num) ≡ true → 3652060 ≤ k → walk k (λ u. isBefore u limit) (turnOn p limit) (from t) ≡ walkOn p limit t
+unfolding walkOn
+on-enough p limit t k d h l =
+    enough (λ w. isBefore (w .at) limit) (turnOn p limit) (λ w. isDate (w .at) ≡ true) (λ w. ahead (w .at)) (λ w v e m q. let s = turn-on-leads p limit h w v e q in (s .dated, s .nearer)) k 3652060 (from t) d (omega (arith, ahead-is t)) (omega (arith, ahead-is t))
+
+pub back-enough : (q : TimePeriod) (limit t : Date) (k : ℕ) → isDate t ≡ true → ltZ (q .num) (pos 0) ≡ true → 3652060 ≤ k → walk k (λ u. isBefore limit u) (turnBack q limit) (from t) ≡ walkBack q limit t
+unfolding walkBack
+back-enough q limit t k d h l =
+    enough (λ w. isBefore limit (w .at)) (turnBack q limit) (λ w. isDate (w .at) ≡ true) (λ w. behind (w .at)) (λ w v e m u. let s = turn-back-leads q limit h w v e u in (s .dated, s .nearer)) k 3652060 (from t) d (omega (arith, behind-is t, number-to t (date-yes t d))) (omega (arith, behind-is t, number-to t (date-yes t d)))
 
 -- where each walk ends
 pub record End (w : Walked) : Type 0 where

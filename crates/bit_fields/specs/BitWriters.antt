@@ -1,4 +1,5 @@
--- Fields put one after the other: whole bytes are written, and the bits of the next one are held. For inner functions only: no entry point promises it.
+-- Fields put one after the other: whole bytes are written, and the bits of the next one are held.
+-- For inner functions only: no entry point promises it.
 use Prim.Native.Nat.{ℕ, _+_, _*_, _^_, _<_, _≤_}
 use mathlib.Core.Path.{_≡_}
 use mathlib.Core.List.{List, _++_}
@@ -18,7 +19,8 @@ Ready p n d = (HoldsPartOfAByte p) × (8 * p .place + p .count + n ≤ 8 * lengt
 abbrev pub putSoFar : List ℕ → BitWriter → List ℕ
 putSoFar e p = bitsOf (take (p .place) e) ++ fieldBits (p .count) (p .bits)
 
--- what putting fields of n bits promises: they stand behind those before, the bytes past them are as they were, and it is n bits further
+-- what putting fields of n bits promises: they stand behind those before, the bytes past them are
+-- as they were, and it is n bits further
 pub record FieldsPut (d e : List ℕ) (p r : BitWriter) (n : ℕ) (fs : List Field) : Type 0 where
   pub held : HoldsPartOfAByte r
   pub standing : putSoFar e r ≡ putSoFar d p ++ fieldsBits fs

@@ -1,4 +1,5 @@
-// Numbers in fields of bits, the most significant bit first: read from lent bytes, and put into them one after the other.
+// Numbers in fields of bits, the most significant bit first: read from lent bytes, and put into
+// them one after the other.
 ghost use mathlib.Core.Path.{_≡_};
 ghost use Prim.Native.Nat.{_+_, _-_, _*_, _≤_, _<_, _^_};
 ghost use mathlib.Core.List.{[], _∷_};
@@ -53,7 +54,8 @@ fn read_part(s: &[u8], at: usize, width: usize) -> u64
     (n >> (end * 8 - at - width)) % power_of_two(width)
 }
 
-// Inner: of bits that are there, so that a record's length is judged once; one wider than 56 bits is read in two parts.
+// Inner: the number in a field, one of over 56 bits read in two parts; asks for bits that are
+// there.
 pub fn read_field(s: &[u8], at: usize, width: usize) -> u64
     requires { ⌜ (width ≤ 64) × (at < 4294967296) × (at + width ≤ 8 * length (now s)) ⌝ }
     ensures { λ r. ⌜ r ≡ field (now (s .entry)) at width ⌝ }
@@ -82,7 +84,7 @@ fn put_part(writer: BitWriter, x: u64, width: usize, out: &mut [u8]) -> BitWrite
     BitWriter { place, count, bits }
 }
 
-// Inner: a field behind those that are put already; the caller has the room.
+// Inner: a field put behind those that are put already; asks for room, and a number that fits.
 pub fn put_field(writer: BitWriter, x: u64, width: usize, out: &mut [u8]) -> BitWriter
     requires { ⌜ (HoldsPartOfAByte writer) × (width ≤ 64) × (x < 2 ^ width) × (8 * writer .place + writer .count + width ≤ 8 * length (now out)) ⌝ }
     ensures { λ r. ⌜ FieldsPut (now (out .entry)) (now (out .exit)) writer r width (inBits width x ∷ []) ⌝ }

@@ -1,4 +1,5 @@
-// The packed codes of units, day counts and adjustments, both ways; `c_face` reads C's codes by them.
+// The packed codes of units, day counts and adjustments, both ways; `c_face` reads C's codes by
+// them.
 ghost use mathlib.Core.Path.{_≡_};
 ghost use Rattle.packed_codes.specs.Codes.{unitOfCode, codeOfUnit, conventionOfCode, codeOfConvention, conventionOutcome, adjustmentOfCode, codeOfAdjustment, adjustmentOutcome};
 ghost use Rattle.time_period.specs.steps.Periods.{unitOutcome};
@@ -17,7 +18,7 @@ pub enum AdjustmentAnswer {
     Refused(u32),
 }
 
-// Inner: for the crates of the register; 18: there is none.
+// Inner: the unit of a packed code; refused 18.
 pub fn unit_of_code(code: u32) -> UnitAnswer
     ensures { λ r. ⌜ unitOutcome r ≡ unitOfCode code ⌝ }
 {
@@ -31,6 +32,7 @@ pub fn unit_of_code(code: u32) -> UnitAnswer
     }
 }
 
+// Inner: the packed code of a unit.
 pub fn code_of_unit(unit: TimePeriodUnit) -> u32
     ensures { λ r. ⌜ r ≡ codeOfUnit unit ⌝ }
 {
@@ -43,6 +45,7 @@ pub fn code_of_unit(unit: TimePeriodUnit) -> u32
     }
 }
 
+// The day count convention of a packed code; refused 18.
 pub fn convention_of_code(code: u32) -> ConventionAnswer
     ensures { λ r. ⌜ conventionOutcome r ≡ conventionOfCode code ⌝ }
 {
@@ -57,10 +60,11 @@ pub fn convention_of_code(code: u32) -> ConventionAnswer
     }
 }
 
-pub fn code_of_convention(rule: DayCountConv) -> u32
-    ensures { λ r. ⌜ r ≡ codeOfConvention rule ⌝ }
+// The packed code of a day count convention.
+pub fn code_of_convention(convention: DayCountConv) -> u32
+    ensures { λ r. ⌜ r ≡ codeOfConvention convention ⌝ }
 {
-    match rule {
+    match convention {
         DayCountConv::Act365 => 0,
         DayCountConv::Act360 => 1,
         DayCountConv::Act365l => 2,
@@ -70,6 +74,7 @@ pub fn code_of_convention(rule: DayCountConv) -> u32
     }
 }
 
+// Inner: the adjustment of a packed code; refused 18.
 pub fn adjustment_of_code(code: u32) -> AdjustmentAnswer
     ensures { λ r. ⌜ adjustmentOutcome r ≡ adjustmentOfCode code ⌝ }
 {
@@ -82,6 +87,7 @@ pub fn adjustment_of_code(code: u32) -> AdjustmentAnswer
     }
 }
 
+// Inner: the packed code of an adjustment.
 pub fn code_of_adjustment(rule: DayAdjust) -> u32
     ensures { λ r. ⌜ r ≡ codeOfAdjustment rule ⌝ }
 {

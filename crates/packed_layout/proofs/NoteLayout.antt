@@ -1,4 +1,5 @@
--- The widths of a packed note, computed once: none is wider than a field may be, and names are the places in the list.
+-- The widths of a packed note, computed once: none is wider than a field may be, and names are the
+-- places in the list.
 use Prim.Native.Nat.{ℕ, zero, suc, _+_, _≤_, _<_}
 use mathlib.Core.Path.{_≡_, refl, sym, ap, _∙_}
 use mathlib.Core.List.{List, map}

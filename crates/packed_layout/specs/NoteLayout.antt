@@ -10,7 +10,9 @@ pub data Name : Type 0 where
   digitCount digits issueYear issueMonth issueDay maturityYear maturityMonth maturityDay couponDay couponMonth : Name
   unit number dayCount adjustment denomination rate firstLetter secondLetter thirdLetter spare : Name
 
--- digit count 4; ten digits of 4; issue and maturity as year 14, month 4, day 5; coupon day 5, month 4; unit 3; number 12; day count 3; adjustment 2; denomination 32; rate 64; three letters of 5; 10 zero bits
+-- digit count 4; ten digits of 4; issue and maturity as year 14, month 4, day 5; coupon day 5,
+-- month 4; unit 3; number 12; day count 3; adjustment 2; denomination 32; rate 64; three letters of
+-- 5; 10 zero bits
 abbrev pub layout : List (Name × ℕ)
 layout =
     (digitCount, 4)

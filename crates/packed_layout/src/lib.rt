@@ -84,7 +84,7 @@ fn widths() -> [usize; FIELDS]
     WIDTHS
 }
 
-// Inner: where the table begins.
+// Inner: how many bits a note takes, behind which the table begins.
 pub fn note_bits() -> usize
     ensures { λ r. ⌜ r ≡ total noteWidths ⌝ }
 {
@@ -98,7 +98,7 @@ pub fn note_bits() -> usize
     bits
 }
 
-// Inner: where the day behind so many holidays begins.
+// Inner: how many bits a note and so many holidays take; asks for at most 4,096 holidays.
 pub fn record_bits(holidays: usize) -> usize
     requires { ⌜ holidays ≤ 4096 ⌝ }
     ensures { λ r. ⌜ r ≡ bitLength holidays ⌝ }
@@ -106,7 +106,7 @@ pub fn record_bits(holidays: usize) -> usize
     note_bits() + COUNT_WIDTH + DAY_WIDTH * holidays
 }
 
-// Inner: of bytes that are enough, so that a record's length is judged once.
+// Inner: the numbers in a note's fields; asks for bytes that hold them all.
 pub fn read_numbers(s: &[u8]) -> [u64; FIELDS]
     requires { ⌜ total noteWidths ≤ 8 * length (now s) ⌝ }
     ensures { λ r. ⌜ (r ≡ noteNumbers (now (s .entry))) × (NumbersFit r) ⌝ }
@@ -124,7 +124,7 @@ pub fn read_numbers(s: &[u8]) -> [u64; FIELDS]
     numbers
 }
 
-// Inner: the caller has the room.
+// Inner: a note's numbers put into its fields; asks for room, and numbers that fit.
 pub fn put_numbers(writer: BitWriter, numbers: [u64; FIELDS], out: &mut [u8]) -> BitWriter
     requires { ⌜ (Ready writer (total noteWidths) (now out)) × (NumbersFit numbers) ⌝ }
     ensures { λ r. ⌜ FieldsPut (now (out .entry)) (now (out .exit)) writer r (total noteWidths) (noteFields numbers) ⌝ }

@@ -166,7 +166,8 @@ fn checked(
     bond::check_note_with(note_with(numbers, unit, convention, rule), true, table)
 }
 
-// Inner: of numbers that stood in their bits; what was found of the table behind them comes with them.
+// Inner: of numbers that stood in their bits; what was found of the table behind them comes with
+// them.
 pub(crate) fn note_from_numbers(numbers: [u64; FIELDS], table: bool) -> NoteAnswer
     requires { ⌜ NumbersFit numbers ⌝ }
     ensures { λ r. ⌜ noteOutcome r ≡ noteFrom table numbers ⌝ }

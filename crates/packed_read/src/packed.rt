@@ -46,7 +46,8 @@ fn copy_days(days: &[u32], n: usize, table: &mut [u32])
     }
 }
 
-// The note in the bytes, and its holidays into the lent places.
+// The note in the bytes and its holidays into the lent places; refused 18, by the note's checks,
+// then 16.
 pub fn read_note(s: &[u8], table: &mut [u32]) -> PackedAnswer
     ensures { λ r. ⌜ ReadNotePromise (now (s .entry)) (now (table .entry)) (now (table .exit)) r ⌝ }
 {

@@ -26,7 +26,8 @@ fn day_at(s: &[u8], i: usize) -> u32
     bit_fields::read_field(s, packed_layout::record_bits(i), DAY_WIDTH) as u32
 }
 
-// Inner: every byte is there, none is left over, and the bits behind the last day are zero; behind a count above 4,096 nothing is judged.
+// Inner: every byte is there, none is left over, and the bits behind the last day are zero; behind
+// a count above 4,096 nothing is judged.
 pub(crate) fn is_whole(s: &[u8]) -> bool
     ensures { λ r. ⌜ r ≡ isWhole (now (s .entry)) ⌝ }
 {
@@ -44,7 +45,8 @@ pub(crate) fn is_whole(s: &[u8]) -> bool
     bit_fields::read_field(s, end, s.len() * 8 - end) == 0
 }
 
-// The days in their order, each read once: false at the first that is not past the one before it, or not of the calendar.
+// The days in their order, each read once: false at the first that is not past the one before it,
+// or not of the calendar.
 fn read_days(s: &[u8], n: usize, days: &mut [u32]) -> bool
     requires { ⌜ (n ≤ 4096) × (bitLength n ≤ 8 * length (now s)) × (n ≤ length (now days)) ⌝ }
     ensures { λ r. ⌜ (r ≡ ascendsFrom 1 (daysFrom (now (s .entry)) 0 n)) × (r ≡ true → take n (now (days .exit)) ≡ daysFrom (now (s .entry)) 0 n) ⌝ }

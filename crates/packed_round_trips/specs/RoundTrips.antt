@@ -1,4 +1,5 @@
--- Written and read: each gives back what the other took, so no record has two notes and no note two records.
+-- Written and read: each gives back what the other took, so no record has two notes and no note two
+-- records.
 use Prim.Native.Nat.{ℕ, _^_, _<_}
 use mathlib.Core.Path.{_≡_}
 use mathlib.Core.List.{List}

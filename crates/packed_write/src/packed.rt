@@ -79,7 +79,8 @@ fn write_judged(note: Note, table: &[u32], out: &mut [u8]) -> LengthAnswer
     LengthAnswer::Length(put_record(numbers, table, out))
 }
 
-// The bytes of a note and its table, which reading gives back.
+// The packed bytes of a note and its holidays; refused 18 for a period above 4,095, by the note's
+// checks, then 16.
 pub fn write_note(note: Note, table: &[u32], out: &mut [u8]) -> LengthAnswer
     ensures { λ r. ⌜ WritePromise note (now (table .entry)) (now (out .entry)) (now (out .exit)) r ⌝ }
 {

@@ -1,4 +1,5 @@
--- `bit_fields::put_part` meets its contract: the bits at hand and the field's go out as whole bytes, and fewer than eight stay.
+-- `bit_fields::put_part` meets its contract: the bits at hand and the field's go out as whole
+-- bytes, and fewer than eight stay.
 use Prim.Native.Nat.{_-_}
 use mathlib.Core.Path.{refl}
 use native.Mathlib.Omega.{arith}

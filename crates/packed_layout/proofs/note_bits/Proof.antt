@@ -1,4 +1,5 @@
--- `packed_layout::note_bits` meets its contract: after each turn the bits are the position of the next field.
+-- `packed_layout::note_bits` meets its contract: after each turn the bits are the position of the
+-- next field.
 use Prim.Native.Nat.{_-_, _≤_}
 use mathlib.Core.Path.{_≡_, refl, ap, _∙_}
 use native.Mathlib.Omega.{arith}

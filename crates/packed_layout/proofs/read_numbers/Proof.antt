@@ -1,4 +1,5 @@
--- `packed_layout::read_numbers` meets its contract: after each turn the numbers so far stand in front, and the next field begins at `at`.
+-- `packed_layout::read_numbers` meets its contract: after each turn the numbers so far stand in
+-- front, and the next field begins at `at`.
 use Prim.Native.Nat.{_-_, _≤_}
 use mathlib.Core.Path.{_≡_, refl}
 use native.Mathlib.Omega.{arith}

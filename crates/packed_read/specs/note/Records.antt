@@ -25,7 +25,8 @@ noteNumberIn ns = record { count = numberIn ns Name.digitCount; digits = digitsN
 abbrev pub currencyIn : List ℕ → Currency
 currencyIn ns = record { first = 64 + numberIn ns Name.firstLetter; second = 64 + numberIn ns Name.secondLetter; third = 64 + numberIn ns Name.thirdLetter }
 
--- the note, of a unit, a day count and an adjustment that are known; the period's number is unsigned
+-- the note, of a unit, a day count and an adjustment that are known; the period's number is
+-- unsigned
 abbrev pub noteWith : List ℕ → TimePeriodUnit → DayCountConv → DayAdjust → Note
 noteWith ns u c a = record {
   number = noteNumberIn ns;

@@ -1,4 +1,5 @@
--- The note of the paper's listing packed by hand, with its refusals, as theorems about the definitions.
+-- The note of the paper's listing packed by hand, with its refusals, as theorems about the
+-- definitions.
 use Prim.Native.Nat.{ℕ}
 use mathlib.Core.Path.{_≡_, refl}
 use mathlib.Core.List.{List, [], _∷_}

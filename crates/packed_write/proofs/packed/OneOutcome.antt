@@ -1,4 +1,5 @@
--- No second outcome meets the promise: it fixes the answer and the bytes. A refusal's number is never 0, and it leaves the bytes as they were.
+-- No second outcome meets the promise: it fixes the answer and the bytes. A refusal's number is
+-- never 0, and it leaves the bytes as they were.
 use Prim.Native.Nat.{ℕ}
 use mathlib.Core.Path.{_≡_, sym, _∙_}
 use mathlib.Core.Bool.{true}

@@ -8,7 +8,8 @@ use Rattle.packed_codes.specs.Codes.{codeOfUnit, codeOfConvention, codeOfAdjust
 use Rattle.packed_layout.specs.NoteLayout.{Name, noteNames}
 use Rattle.packed_write.specs.numbers.Codes.{digitsPlaces}
 
--- the note's number passes digit by digit; the period's number is unsigned; a letter is its place in the alphabet: A = 1; the spare bits are zero
+-- the note's number passes digit by digit; the period's number is unsigned; a letter is its place
+-- in the alphabet: A = 1; the spare bits are zero
 abbrev pub numberOf : Note → Name → ℕ
 numberOf n Name.digitCount = n .number .count
 numberOf n Name.digits = digitsPlaces (n .number .count) 10 (n .number .digits)

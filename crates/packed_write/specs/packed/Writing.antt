@@ -12,7 +12,8 @@ use Rattle.bond.specs.note.Notes.{noteChecks}
 use Rattle.bond.specs.declared.note.Note.{Note}
 use Rattle.packed_write.specs.packed.Fields.{recordBytes}
 
--- 18 for a coupon period above 4,095, which 12 bits do not hold; then the note's checks in their order, 13 for the table
+-- 18 for a coupon period above 4,095, which 12 bits do not hold; then the note's checks in their
+-- order, 13 for the table
 unfoldable pub packedNote : Note → List ℕ → Outcome (List ℕ)
 packedNote n table =
     unless (leZ (n .period .num) (pos 4095)) 18

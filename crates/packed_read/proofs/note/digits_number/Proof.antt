@@ -1,4 +1,5 @@
--- `packed_read::digits_number` meets its contract: after each turn the number is that of the places so far.
+-- `packed_read::digits_number` meets its contract: after each turn the number is that of the places
+-- so far.
 use Rattle.packed_read.specs.note.Codes.{digitsNumber}
 use Rattle.packed_read.proofs.note.Codes.{number-small, number-more, places-all}
 use Prim.Native.Nat.{ℕ, _-_, _/_, _^_, _≤_}

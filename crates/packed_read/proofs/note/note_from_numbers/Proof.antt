@@ -1,4 +1,5 @@
--- `packed_read::note_from_numbers` meets its contract: each 18 in turn, the codes in their order, then the note is checked.
+-- `packed_read::note_from_numbers` meets its contract: each 18 in turn, the codes in their order,
+-- then the note is checked.
 use mathlib.Core.Path.{sym, _∙_}
 use borrow.Author.Tests.{not-true, not-false}
 use Rattle.packed_read.proofs.note.Reading.{bad-number, spare-bits, well-formed}

@@ -1,4 +1,5 @@
--- `packed_read::copy_days` meets its contract. The loop's invariant: i days are copied and the other places are as they were. The measure: how many are left.
+-- `packed_read::copy_days` meets its contract. The loop's invariant: i days are copied and the
+-- other places are as they were. The measure: how many are left.
 use Prim.Native.Nat.{_-_, _≤_}
 use mathlib.Core.Path.{_≡_}
 use native.Mathlib.Omega.{arith}

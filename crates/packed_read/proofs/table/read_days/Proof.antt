@@ -1,4 +1,5 @@
--- `packed_read::read_days` meets its contract: the days so far stand in front, and what is left of them decides.
+-- `packed_read::read_days` meets its contract: the days so far stand in front, and what is left of
+-- them decides.
 use Prim.Native.Nat.{_-_, _≤_}
 use mathlib.Core.Path.{_≡_, sym}
 use mathlib.Core.Bool.{true≢false}

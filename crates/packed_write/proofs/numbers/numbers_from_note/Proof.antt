@@ -1,4 +1,5 @@
--- `packed_write::numbers_from_note` meets its contract: each number from its part of the note, and each fits.
+-- `packed_write::numbers_from_note` meets its contract: each number from its part of the note, and
+-- each fits.
 use Prim.Native.Nat.{_<_}
 use mathlib.Core.Path.{sym, ap, subst, _∙_}
 use native.Mathlib.Omega.{arith}

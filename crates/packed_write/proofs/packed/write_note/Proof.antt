@@ -1,4 +1,5 @@
--- `packed_write::write_note` meets its contract: 18 for the period, the note's refusals, or what is written.
+-- `packed_write::write_note` meets its contract: 18 for the period, the note's refusals, or what is
+-- written.
 use mathlib.Core.Path.{_≡_, sym, ap, subst, _∙_}
 use mathlib.Core.Bool.{true, false}
 use lib.IntN.{ℤ, pos}

@@ -16,7 +16,7 @@ use Rattle.coupon_date.specs.Coupons.{couponDate}
 use Rattle.coupon_date.proofs.OneOutcome.{new-numbered}
 use Rattle.cash_flow.specs.currency.Amounts.{isCurrency}
 use Rattle.bond.specs.limits.Limits.{isNoteNumber, isCouponRate}
-use Rattle.bond.specs.note.Notes.{noteOutcome, isPosition, interestOn, nominalOf, couponAmount, periodChecks, termChecks, noteChecks, inYearOf, firstCouponEnd, ChecksPromise, NotePromise, FirstEndPromise}
+use Rattle.bond.specs.note.Notes.{noteOutcome, interestOn, nominalOf, couponAmount, periodChecks, termChecks, noteChecks, inYearOf, firstCouponEnd, PositionPromise, ChecksPromise, NotePromise, FirstEndPromise}
 use Rattle.bond.specs.declared.note.Note.{Note}
 use Rattle.bond.specs.declared.note.NoteAnswer.{NoteAnswer}
 use Rattle.bond.specs.declared.note.NoteAnswer.the-variants as note-answer
@@ -50,7 +50,7 @@ unfolding firstCouponEnd inYearOf existingDate
 first-end-numbered n = unless-numbered (isDate _) 1 _ (omega arith) (omega arith)
 
 -- and of the promises that are equations
-pub one-is-position : (x : Float) (r s : Bool) → r ≡ isPosition x → s ≡ isPosition x → r ≡ s
+pub one-is-position : (x : Float) (r s : Bool) → PositionPromise x r → PositionPromise x s → r ≡ s
 one-is-position x r s p q = one-value r s p q
 
 pub one-interest : (nominal rate fraction r s : Float) → r ≡ interestOn nominal rate fraction → s ≡ interestOn nominal rate fraction → r ≡ s

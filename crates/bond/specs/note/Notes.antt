@@ -80,6 +80,9 @@ unfoldable pub couponAmount : Float → Note → Float → Float
 couponAmount position n fraction = interestOn (nominalOf position n) (n .rate) fraction
 
 -- what the entry points promise of their result r
+abbrev pub PositionPromise : Float → Bool → Type 0
+PositionPromise x r = r ≡ isPosition x
+
 abbrev pub ChecksPromise : Bool → Bool → Note → NoteAnswer → Type 0
 ChecksPromise position table n r = noteOutcome r ≡ noteChecks position table n
 

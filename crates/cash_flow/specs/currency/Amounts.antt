@@ -1,5 +1,6 @@
 -- Currencies, the limits of amounts, and what an amount's answer says.
 use Prim.Native.Nat.{ℕ, _*_}
+use mathlib.Core.Path.{_≡_}
 use mathlib.Core.Bool.{Bool, false}
 use mathlib.Core.List.{List, [], _∷_}
 use lib.Dec.{leb, eqb}
@@ -35,3 +36,13 @@ upTo k (fin s m e) = leb (m * up e) (k * down e)
 abbrev pub amountOutcome : AmountAnswer → Outcome Float
 amountOutcome (Amount x) = given x
 amountOutcome (Refused n) = refused n
+
+-- what the entry points promise of their result r
+abbrev pub CurrencyPromise : Currency → Bool → Type 0
+CurrencyPromise c r = r ≡ isCurrency c
+
+abbrev pub SameCurrencyPromise : Currency → Currency → Bool → Type 0
+SameCurrencyPromise a b r = r ≡ isSameCurrency a b
+
+abbrev pub UpToBillionPromise : Float → Bool → Type 0
+UpToBillionPromise x r = r ≡ upTo 1000000000 x

@@ -52,8 +52,9 @@ C_FACE = "c_face"
 INNER = "// Inner:"
 MOST_EDITS = 3
 WIDTH = 100
-# The head speaks of an entry point as `crate::name` and of a wrong edit as `crate/label`.
-NAMED_ENTRY_POINT = re.compile(r"`(\w+)::(\w+)`")
+# The head speaks of a function, an entry point or inner, as `crate::name` and of a wrong edit as
+# `crate/label`.
+NAMED_FUNCTION = re.compile(r"`(\w+)::(\w+)`")
 NAMED_EDIT = re.compile(r"`(\w+)/(\w+)`")
 EXCEPTION = "## The exception"
 
@@ -413,16 +414,18 @@ def counts(register):
 
 def check_head(register, head):
     """What the head names must be there; those in its exception are marked in their rows."""
-    every = {(c.name, i.name) for c in register.crates.values() for i in entry_points(c)}
-    edits = {(e.crate, e.label) for c in register.crates.values() for e in c.edits}
-    for name in NAMED_ENTRY_POINT.findall(head):
+    crates = register.crates.values()
+    every = {(c.name, i.name) for c in crates for i in entry_points(c)}
+    every |= {(c.name, i.name) for c in crates for i in c.items if i.is_inner}
+    edits = {(e.crate, e.label) for c in crates for e in c.edits}
+    for name in NAMED_FUNCTION.findall(head):
         if name not in every:
-            register.problems.say("the head names %s::%s, which is no entry point" % name)
+            register.problems.say("the head names %s::%s, which is no such function" % name)
     for name in NAMED_EDIT.findall(head):
         if name[0] in register.crates and name not in edits:
             register.problems.say("the head names %s/%s, which is no wrong edit" % name)
     exception = head.split(EXCEPTION, 1)[-1].split("\n## ", 1)[0]
-    return set(NAMED_ENTRY_POINT.findall(exception))
+    return set(NAMED_FUNCTION.findall(exception))
 
 
 def document(register):

@@ -57,6 +57,9 @@ WIDTH = 100
 NAMED_FUNCTION = re.compile(r"`(\w+)::(\w+)`")
 NAMED_EDIT = re.compile(r"`(\w+)/(\w+)`")
 EXCEPTION = "## The exception"
+# In the head, where the table of zeros comes; and the zero in a definition `..Returned`.
+ZEROS = "<!-- zeros -->"
+ZERO = re.compile(r"= returned (\S+) ")
 
 
 class Problems(list):
@@ -403,6 +406,18 @@ def contents(titles):
     return lines + [""]
 
 
+def zeros(register, titles):
+    """What each answer returns, by its definition `..Returned`, and the zero that it names."""
+    lines = [row(["answer", "returned, by", "its zero"]), "|---|---|---|"]
+    for crate in (register.crates[n] for _, names in titles for n in names):
+        for one in crate.definitions:
+            if one.name.endswith("Returned"):
+                answer, zero = one.type.split(" → ")[0], ZERO.search(one.text).group(1)
+                place = f"`{one.name}` ({crate.name}: {one.file})"
+                lines.append(row([f"`{answer}`", place, f"`{zero}`"]))
+    return "\n".join(lines)
+
+
 def counts(register):
     every = [i for c in register.crates.values() for i in entry_points(c)]
     inner = [i for c in register.crates.values() for i in inner_functions(c)]
@@ -432,7 +447,8 @@ def document(register):
     head = sources.read(HEAD)
     marked = check_head(register, head)
     titles = chapters(register)
-    lines = [head.rstrip("\n"), ""] + contents(titles) + [counts(register), ""]
+    head = head.replace(ZEROS, zeros(register, titles)).rstrip("\n")
+    lines = [head, ""] + contents(titles) + [counts(register), ""]
     for _, names in titles:
         for name in names:
             lines += section(register, register.crates[name], marked)

@@ -52,10 +52,14 @@ C_FACE = "c_face"
 INNER = "// Inner:"
 MOST_EDITS = 3
 WIDTH = 100
-# The head speaks of an entry point as `crate::name` and of a wrong edit as `crate/label`.
-NAMED_ENTRY_POINT = re.compile(r"`(\w+)::(\w+)`")
+# The head speaks of a function, an entry point or inner, as `crate::name` and of a wrong edit as
+# `crate/label`.
+NAMED_FUNCTION = re.compile(r"`(\w+)::(\w+)`")
 NAMED_EDIT = re.compile(r"`(\w+)/(\w+)`")
 EXCEPTION = "## The exception"
+# In the head, where the table of zeros comes; and the zero in a definition `..Returned`.
+ZEROS = "<!-- zeros -->"
+ZERO = re.compile(r"= returned (\S+) ")
 
 
 class Problems(list):
@@ -402,6 +406,18 @@ def contents(titles):
     return lines + [""]
 
 
+def zeros(register, titles):
+    """What each answer returns, by its definition `..Returned`, and the zero that it names."""
+    lines = [row(["answer", "returned, by", "its zero"]), "|---|---|---|"]
+    for crate in (register.crates[n] for _, names in titles for n in names):
+        for one in crate.definitions:
+            if one.name.endswith("Returned"):
+                answer, zero = one.type.split(" → ")[0], ZERO.search(one.text).group(1)
+                place = f"`{one.name}` ({crate.name}: {one.file})"
+                lines.append(row([f"`{answer}`", place, f"`{zero}`"]))
+    return "\n".join(lines)
+
+
 def counts(register):
     every = [i for c in register.crates.values() for i in entry_points(c)]
     inner = [i for c in register.crates.values() for i in inner_functions(c)]
@@ -413,23 +429,26 @@ def counts(register):
 
 def check_head(register, head):
     """What the head names must be there; those in its exception are marked in their rows."""
-    every = {(c.name, i.name) for c in register.crates.values() for i in entry_points(c)}
-    edits = {(e.crate, e.label) for c in register.crates.values() for e in c.edits}
-    for name in NAMED_ENTRY_POINT.findall(head):
+    crates = register.crates.values()
+    every = {(c.name, i.name) for c in crates for i in entry_points(c)}
+    every |= {(c.name, i.name) for c in crates for i in c.items if i.is_inner}
+    edits = {(e.crate, e.label) for c in crates for e in c.edits}
+    for name in NAMED_FUNCTION.findall(head):
         if name not in every:
-            register.problems.say("the head names %s::%s, which is no entry point" % name)
+            register.problems.say("the head names %s::%s, which is no such function" % name)
     for name in NAMED_EDIT.findall(head):
         if name[0] in register.crates and name not in edits:
             register.problems.say("the head names %s/%s, which is no wrong edit" % name)
     exception = head.split(EXCEPTION, 1)[-1].split("\n## ", 1)[0]
-    return set(NAMED_ENTRY_POINT.findall(exception))
+    return set(NAMED_FUNCTION.findall(exception))
 
 
 def document(register):
     head = sources.read(HEAD)
     marked = check_head(register, head)
     titles = chapters(register)
-    lines = [head.rstrip("\n"), ""] + contents(titles) + [counts(register), ""]
+    head = head.replace(ZEROS, zeros(register, titles)).rstrip("\n")
+    lines = [head, ""] + contents(titles) + [counts(register), ""]
     for _, names in titles:
         for name in names:
             lines += section(register, register.crates[name], marked)

@@ -1,7 +1,7 @@
 // The note, as finql's bond.rs, and its checks in their order.
 ghost use mathlib.Core.Path.{_≡_};
 ghost use Rattle.time_period.specs.steps.Steps.{needsTable};
-ghost use Rattle.bond.specs.note.Notes.{isPosition, noteOutcome, periodChecks, termChecks, ChecksPromise, NotePromise};
+ghost use Rattle.bond.specs.note.Notes.{noteOutcome, periodChecks, termChecks, PositionPromise, ChecksPromise, NotePromise};
 use crate::limits::NoteNumber;
 use calendar::Date;
 use cash_flow::Currency;
@@ -32,7 +32,7 @@ pub enum NoteAnswer {
 
 // Whether a position is finite, from -1e9 to 1e9; -0.0 is one.
 pub fn is_position(position: f64) -> bool
-    ensures { λ r. ⌜ r ≡ isPosition position ⌝ }
+    ensures { λ r. ⌜ PositionPromise position r ⌝ }
 {
     cash_flow::is_up_to_billion(position)
 }

@@ -1,6 +1,5 @@
 // The calendar of document 01: its dates and serial days, judged and compared.
-ghost use mathlib.Core.Path.{_≡_};
-ghost use Rattle.calendar.specs.dates.Dates.{isDate, isDay, isBefore, isSame};
+ghost use Rattle.calendar.specs.dates.Dates.{IsDatePromise, IsDayPromise, BeforePromise, SamePromise};
 
 // A serial day: 1 is 0001-01-01, and 3652059 is 9999-12-31.
 pub struct Day(pub u32);
@@ -20,7 +19,7 @@ pub const LAST_DAY: u32 = 3652059;
 
 // Whether a date exists, from 0001-01-01 to 9999-12-31.
 pub fn is_date(t: Date) -> bool
-    ensures { λ r. ⌜ r ≡ isDate t ⌝ }
+    ensures { λ r. ⌜ IsDatePromise t r ⌝ }
 {
     if t.month < 1 {
         return false;
@@ -46,7 +45,7 @@ pub fn is_date(t: Date) -> bool
 
 // Whether a serial day is in the calendar, from 1 to 3,652,059.
 pub fn is_day(d: Day) -> bool
-    ensures { λ r. ⌜ r ≡ isDay d ⌝ }
+    ensures { λ r. ⌜ IsDayPromise d r ⌝ }
 {
     if d.0 < 1 {
         return false;
@@ -56,7 +55,7 @@ pub fn is_day(d: Day) -> bool
 
 // Whether a date lies before another, by year, then month, then day.
 pub fn is_before(a: Date, b: Date) -> bool
-    ensures { λ r. ⌜ r ≡ isBefore a b ⌝ }
+    ensures { λ r. ⌜ BeforePromise a b r ⌝ }
 {
     // The parts are compared, so that no serial day is computed.
     if a.year != b.year {
@@ -70,7 +69,7 @@ pub fn is_before(a: Date, b: Date) -> bool
 
 // Whether two dates have the same year, month and day.
 pub fn is_same(a: Date, b: Date) -> bool
-    ensures { λ r. ⌜ r ≡ isSame a b ⌝ }
+    ensures { λ r. ⌜ SamePromise a b r ⌝ }
 {
     if a.year != b.year {
         return false;

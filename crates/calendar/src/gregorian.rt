@@ -4,7 +4,7 @@ ghost use mathlib.Core.Path.{_≡_};
 ghost use mathlib.Core.Bool.{false};
 ghost use Prim.Native.Nat.{ℕ, suc, _+_, _<_, _≤_};
 ghost use lib.ListN.{getD};
-ghost use Rattle.calendar.specs.gregorian.Gregorian.{leap, lengthIn, monthLength, yearLength, daysBefore, beforeYear, beforeMonth};
+ghost use Rattle.calendar.specs.gregorian.Gregorian.{lengthIn, daysBefore, beforeYear, beforeMonth, LeapPromise, MonthLengthPromise, YearLengthPromise};
 
 // The serial day of 1 January of each year of the first cycle: FIRST_OF_YEAR[k] is that of year k +
 // 1.
@@ -413,7 +413,7 @@ const FIRST_OF_YEAR: [u32; 400] = [
 
 // Whether a year is a leap year of the Gregorian calendar.
 pub fn is_leap(year: u32) -> bool
-    ensures { λ r. ⌜ r ≡ leap year ⌝ }
+    ensures { λ r. ⌜ LeapPromise year r ⌝ }
 {
     // Of those that 25 divides the leap years are those that 16 divides, and 16 takes no division.
     if year % 25 == 0 {
@@ -425,7 +425,7 @@ pub fn is_leap(year: u32) -> bool
 
 // How many days a month of a year has; 0 where there is no such month.
 pub fn length_of_month(year: u32, month: u32) -> u32
-    ensures { λ r. ⌜ r ≡ monthLength year month ⌝ }
+    ensures { λ r. ⌜ MonthLengthPromise year month r ⌝ }
 {
     match month {
         1 | 3 | 5 | 7 => 31,
@@ -438,7 +438,7 @@ pub fn length_of_month(year: u32, month: u32) -> u32
 
 // How many days a year has; 0 for year 0, which does not exist.
 pub fn length_of_year(year: u32) -> u32
-    ensures { λ r. ⌜ r ≡ yearLength year ⌝ }
+    ensures { λ r. ⌜ YearLengthPromise year r ⌝ }
 {
     if year < 1 {
         return 0;

@@ -1,7 +1,7 @@
 // Amounts of money: a currency of three letters, the limits of an amount, and the answer that it
 // is.
 ghost use mathlib.Core.Path.{_≡_};
-ghost use Rattle.cash_flow.specs.currency.Amounts.{isCapital, isCurrency, isSameCurrency, upTo};
+ghost use Rattle.cash_flow.specs.currency.Amounts.{isCapital, CurrencyPromise, SameCurrencyPromise, UpToBillionPromise};
 
 // finql keeps three `char`s in an array; fields may stand in an enum, an array may not.
 pub struct Currency {
@@ -26,7 +26,7 @@ fn is_capital(b: u8) -> bool
 
 // Whether a currency is three capital letters.
 pub fn is_currency(c: Currency) -> bool
-    ensures { λ r. ⌜ r ≡ isCurrency c ⌝ }
+    ensures { λ r. ⌜ CurrencyPromise c r ⌝ }
 {
     if !is_capital(c.first) {
         return false;
@@ -39,7 +39,7 @@ pub fn is_currency(c: Currency) -> bool
 
 // Whether two currencies have the same three letters.
 pub fn is_same_currency(a: Currency, b: Currency) -> bool
-    ensures { λ r. ⌜ r ≡ isSameCurrency a b ⌝ }
+    ensures { λ r. ⌜ SameCurrencyPromise a b r ⌝ }
 {
     if a.first != b.first {
         return false;
@@ -52,7 +52,7 @@ pub fn is_same_currency(a: Currency, b: Currency) -> bool
 
 // Whether a number is finite, from -1e9 to 1e9; -0.0 is one.
 pub fn is_up_to_billion(x: f64) -> bool
-    ensures { λ r. ⌜ r ≡ upTo 1000000000 x ⌝ }
+    ensures { λ r. ⌜ UpToBillionPromise x r ⌝ }
 {
     // No comparison holds of a NaN.
     if x <= 1e9 {

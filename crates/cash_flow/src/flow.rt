@@ -1,6 +1,7 @@
 // Cash flows: an amount of a currency on a date; comparison of two.
 ghost use mathlib.Core.Path.{_≡_};
-ghost use Rattle.cash_flow.specs.flow.Flows.{noDate, dateOn, isWithin, AggregatablePromise, ComparisonPromise};
+ghost use Rattle.calendar.specs.serial.Answers.{dateZero};
+ghost use Rattle.cash_flow.specs.flow.Flows.{dateOn, isWithin, AggregatablePromise, ComparisonPromise};
 use crate::currency::Currency;
 use calendar::Date;
 use calendar::DateAnswer;
@@ -19,7 +20,7 @@ pub enum FlowsAnswer {
 }
 
 fn no_date() -> Date
-    ensures { λ r. ⌜ r ≡ noDate ⌝ }
+    ensures { λ r. ⌜ r ≡ dateZero ⌝ }
 {
     Date {
         year: 0,

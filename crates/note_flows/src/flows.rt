@@ -9,7 +9,7 @@ ghost use Rattle.business_days.specs.table.Table.{ascending};
 ghost use Rattle.cash_flow.specs.flow.Flows.{flowsOutcome};
 ghost use Rattle.note_flows.specs.schedule.Schedule.{Dated};
 ghost use Rattle.note_flows.specs.flows.NoteFlows.{paid, noteFlows};
-ghost use Rattle.note_flows.specs.flows.Turns.{JudgedNote, stepOf, Turned, Kept};
+ghost use Rattle.note_flows.specs.flows.Turns.{JudgedNote, stepOf, nextStep, Kept};
 use crate::schedule::Due;
 use crate::schedule::Payment;
 use bond::Note;
@@ -81,7 +81,7 @@ fn pay(note: Note, table: &[u32], hint: usize, t: Date, amount: f64, next: Due) 
 // near its date's.
 fn next_flow_near(note: Note, position: f64, table: &[u32], hint: usize, due: Due) -> HintedStep
     requires { ⌜ (JudgedNote note position (now table)) × (Dated due) ⌝ }
-    ensures { λ r. ⌜ Turned note position (now (table .entry)) due (r .step) ⌝ }
+    ensures { λ r. ⌜ r .step ≡ nextStep note position (now (table .entry)) due ⌝ }
 {
     match crate::schedule::payment_for(note, position, crate::schedule::next_event(note, due)) {
         Payment::Pay(t, amount, next) => pay(note, table, hint, t, amount, next),
@@ -99,7 +99,7 @@ fn next_flow_near(note: Note, position: f64, table: &[u32], hint: usize, due: Du
 // Inner: one step of a note; asks for a checked note, position and table, and a date that exists.
 pub fn next_flow(note: Note, position: f64, table: &[u32], due: Due) -> Step
     requires { ⌜ (JudgedNote note position (now table)) × (Dated due) ⌝ }
-    ensures { λ r. ⌜ Turned note position (now (table .entry)) due r ⌝ }
+    ensures { λ r. ⌜ r ≡ nextStep note position (now (table .entry)) due ⌝ }
 {
     let taken = next_flow_near(note, position, table, NO_HINT, due);
     taken.step

@@ -8,15 +8,15 @@ pub use length::padded_length;
 pub use length::signed_length;
 pub use read::NumberAnswer;
 pub use read::SignedAnswer;
-pub use read::read_decimal;
-pub use read::read_i32;
-pub use read::read_u32;
 pub use write::LengthAnswer;
 pub use write::write_i32;
 pub use write::write_padded;
 pub use write::write_u32;
 
 // Inner: for the crates of the register, which have judged what these ask for.
+pub use read::read_decimal;
+pub use read::read_i32;
+pub use read::read_u32;
 pub use write::put_bytes;
 pub use write::put_decimal;
 pub use write::put_digits;

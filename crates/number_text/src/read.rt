@@ -14,7 +14,8 @@ pub enum SignedAnswer {
     Refused(u32),
 }
 
-// The number of a decimal without a sign, at most `most`; else refused with the caller's number.
+// Inner: the number of a decimal without a sign, at most `most`; asks for nothing; the caller names
+// its refusal.
 pub fn read_decimal(s: &[u8], most: u32, refusal: u32) -> NumberAnswer
     ensures { λ r. ⌜ ReadsDecimal most refusal (now (s .entry)) r ⌝ }
 {
@@ -42,7 +43,8 @@ pub fn read_decimal(s: &[u8], most: u32, refusal: u32) -> NumberAnswer
     NumberAnswer::Number(v as u32)
 }
 
-// The number of a decimal of 32 bits, `+` allowed; else refused with the caller's number.
+// Inner: the number of a decimal of 32 bits, `+` allowed; asks for nothing; the caller names its
+// refusal.
 pub fn read_u32(s: &[u8], refusal: u32) -> NumberAnswer
     ensures { λ r. ⌜ ReadsUnsigned refusal (now (s .entry)) r ⌝ }
 {
@@ -80,8 +82,8 @@ fn read_from_zero(s: &[u8], refusal: u32) -> SignedAnswer
     }
 }
 
-// The number of a signed decimal of 32 bits, `-` and `+` allowed; else refused with the caller's
-// number.
+// Inner: the number of a signed decimal of 32 bits, `-` and `+` allowed; asks for nothing; the
+// caller names its refusal.
 pub fn read_i32(s: &[u8], refusal: u32) -> SignedAnswer
     ensures { λ r. ⌜ ReadsSigned refusal (now (s .entry)) r ⌝ }
 {

@@ -4,7 +4,7 @@ use Prim.Native.Nat.{ℕ, _<_}
 use mathlib.Core.Path.{_≡_, refl, sym, _∙_, ap}
 use mathlib.Core.Bool.{Bool, true, false}
 use native.Mathlib.Omega.{arith}
-use Rattle.outcome.specs.Outcome.{Outcome, given, refused, number, value, unless, andThen, passedAs, Given, Numbered, pick, both}
+use Rattle.outcome.specs.Outcome.{Outcome, given, refused, number, value, returned, unless, andThen, passedAs, Given, Numbered, pick, both}
 
 pub given-injective : {A : Type 0} {a b : A} → given a ≡ given b → a ≡ b
 given-injective e = cc
@@ -42,6 +42,14 @@ fixed-by-parts zero (given a) (given b) h k e v = ap given v
 fixed-by-parts zero (given a) (refused n) h k e v = absurd (omega arith)
 fixed-by-parts zero (refused m) (given b) h k e v = absurd (omega arith)
 fixed-by-parts zero (refused m) (refused n) h k e v = ap refused e
+
+-- what an answer returns: a refusal its number and the zero; and one outcome has one pair
+pub record Returns {A R : Type 0} (out : R → Outcome A) (zero : A) (pair : R → ℕ × A) : Type 0 where
+  pub refusal : (r : R) (n : ℕ) → out r ≡ refused n → pair r ≡ (n, zero)
+  pub one-pair : (r s : R) → out r ≡ out s → pair r ≡ pair s
+
+pub returns : {A R : Type 0} (out : R → Outcome A) (zero : A) → Returns out zero (λ r. returned zero (out r))
+returns out zero = record { refusal = λ r n e. ap (returned zero) e; one-pair = λ r s e. ap (returned zero) e }
 
 pub unless-numbered : {A : Type 0} (b : Bool) (n : ℕ) (o : Outcome A) → 0 < n → Numbered o → Numbered (unless b n o)
 unless-numbered true n o h k = k

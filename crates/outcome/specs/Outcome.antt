@@ -1,7 +1,9 @@
--- What every entry point answers: a value, or the number of a refusal. `number` and `value` are
--- what the paper returns of it: the number, and the value or its zero.
+-- What every entry point answers: a value, or the number of a refusal; and what the paper returns of
+-- it: the number, and the value or its zero.
 use Prim.Native.Nat.{ℕ, _<_}
 use mathlib.Core.Bool.{Bool, true, false}
+use lib.IntN.{pos}
+use lib.Ieee.{Float, fin}
 
 pub data Outcome (A : Type 0) : Type 0 where
   given : A → Outcome A
@@ -16,6 +18,14 @@ number (refused n) = n
 abbrev pub value : {A : Type 0} → A → Outcome A → A
 value zero (given a) = a
 value zero (refused n) = zero
+
+-- both, as the paper returns them; a refusal its number and the zero
+abbrev pub returned : {A : Type 0} → A → Outcome A → ℕ × A
+returned zero o = (number o, value zero o)
+
+-- the zero of an f64: +0.0
+abbrev pub plusZero : Float
+plusZero = fin false 0 (pos 0)
 
 -- a check in its place in the order: unless it holds, refused n; then the rest
 abbrev pub unless : {A : Type 0} → Bool → ℕ → Outcome A → Outcome A

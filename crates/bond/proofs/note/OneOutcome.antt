@@ -6,7 +6,7 @@ use lib.IntN.{pos}
 use lib.Signed.{leZ}
 use lib.Ieee.{Float}
 use Rattle.outcome.specs.Outcome.{Numbered, both}
-use Rattle.outcome.proofs.Outcomes.{unless-numbered, then-numbered, one-value, answerOf, one-answer}
+use Rattle.outcome.proofs.Outcomes.{unless-numbered, then-numbered, one-value, answerOf, one-answer, Returns, returns}
 use Rattle.calendar.specs.dates.Dates.{isDate}
 use Rattle.calendar.specs.declared.serial.DateAnswer.{DateAnswer}
 use Rattle.calendar.proofs.dates.OneOutcome.{same-date-answer}
@@ -16,13 +16,17 @@ use Rattle.coupon_date.specs.Coupons.{couponDate}
 use Rattle.coupon_date.proofs.OneOutcome.{new-numbered}
 use Rattle.cash_flow.specs.currency.Amounts.{isCurrency}
 use Rattle.bond.specs.limits.Limits.{isNoteNumber, isCouponRate}
-use Rattle.bond.specs.note.Notes.{noteOutcome, isPosition, interestOn, nominalOf, couponAmount, periodChecks, termChecks, noteChecks, inYearOf, firstCouponEnd, ChecksPromise, NotePromise, FirstEndPromise}
+use Rattle.bond.specs.note.Notes.{noteOutcome, noteZero, noteReturned, interestOn, nominalOf, couponAmount, periodChecks, termChecks, noteChecks, inYearOf, firstCouponEnd, PositionPromise, ChecksPromise, NotePromise, FirstEndPromise}
 use Rattle.bond.specs.declared.note.Note.{Note}
 use Rattle.bond.specs.declared.note.NoteAnswer.{NoteAnswer}
 use Rattle.bond.specs.declared.note.NoteAnswer.the-variants as note-answer
 
 pub same-note-answer : (r s : NoteAnswer) → noteOutcome r ≡ noteOutcome s → r ≡ s
 same-note-answer r s e = one-answer noteOutcome note-answer.Note note-answer.Refused (λ x. elim x as (λ y. answerOf note-answer.Note note-answer.Refused (noteOutcome y) ≡ y) [ note-answer.Note v ↦ refl | note-answer.Refused n ↦ refl ]) r s e
+
+-- a refusal returns its number and the zero
+pub note-returned : Returns noteOutcome noteZero noteReturned
+note-returned = returns noteOutcome noteZero
 
 pub one-checks : (position table : Bool) (n : Note) (r s : NoteAnswer) → ChecksPromise position table n r → ChecksPromise position table n s → r ≡ s
 one-checks position table n r s p q = same-note-answer r s (p ∙ sym q)
@@ -50,7 +54,7 @@ unfolding firstCouponEnd inYearOf existingDate
 first-end-numbered n = unless-numbered (isDate _) 1 _ (omega arith) (omega arith)
 
 -- and of the promises that are equations
-pub one-is-position : (x : Float) (r s : Bool) → r ≡ isPosition x → s ≡ isPosition x → r ≡ s
+pub one-is-position : (x : Float) (r s : Bool) → PositionPromise x r → PositionPromise x s → r ≡ s
 one-is-position x r s p q = one-value r s p q
 
 pub one-interest : (nominal rate fraction r s : Float) → r ≡ interestOn nominal rate fraction → s ≡ interestOn nominal rate fraction → r ≡ s

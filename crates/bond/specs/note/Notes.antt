@@ -6,16 +6,19 @@ use lib.Dec.{ltb}
 use lib.IntN.{pos, _*ℤ_}
 use lib.Signed.{leZ}
 use lib.Ieee.{Float, binary64, mul, div, ofInt}
-use Rattle.outcome.specs.Outcome.{Outcome, given, refused, unless, andThen, pick, both}
+use Rattle.outcome.specs.Outcome.{Outcome, given, refused, returned, plusZero, unless, andThen, pick, both}
 use Rattle.rounding.specs.Close.{numerator, denominator}
 use Rattle.calendar.specs.dates.Dates.{isDate}
-use Rattle.calendar.specs.serial.Answers.{dateOutcome}
+use Rattle.calendar.specs.serial.Answers.{dateOutcome, dateZero}
 use Rattle.calendar.specs.declared.dates.Date.{Date}
 use Rattle.calendar.specs.declared.serial.DateAnswer.{DateAnswer}
 use Rattle.date_step.specs.Steps.{existingDate}
+use Rattle.day_adjust.specs.declared.DayAdjust.the-variants as rule
+use Rattle.time_period.specs.steps.Periods.{periodZero}
 use Rattle.time_period.specs.steps.Steps.{needsTable}
 use Rattle.day_fraction.specs.Exact.{Exact}
-use Rattle.coupon_date.specs.Coupons.{couponDate}
+use Rattle.day_count_conv.specs.declared.conventions.DayCountConv.the-variants as conv
+use Rattle.coupon_date.specs.Coupons.{couponZero, couponDate}
 use Rattle.coupon_date.specs.declared.CouponDate.{CouponDate}
 use Rattle.cash_flow.specs.currency.Amounts.{isCurrency, upTo}
 use Rattle.bond.specs.declared.note.Note.{Note}
@@ -28,6 +31,24 @@ unfoldable pub use Rattle.bond.specs.limits.Limits.{isNoteNumber, isCoup
 abbrev pub noteOutcome : NoteAnswer → Outcome Note
 noteOutcome (note-answer.Note n) = given n
 noteOutcome (note-answer.Refused n) = refused n
+
+-- its zero: every number 0, and of each list what document 01 packs as 0; and what is returned of it
+abbrev pub noteZero : Note
+noteZero = record {
+  number = record { count = 0; digits = 0 };
+  «issue_date» = dateZero;
+  maturity = dateZero;
+  «coupon_date» = couponZero;
+  period = periodZero;
+  «day_count_convention» = conv.Act365;
+  «business_day_rule» = rule.None;
+  denomination = 0;
+  rate = plusZero;
+  currency = record { first = 0; second = 0; third = 0 };
+}
+
+abbrev pub noteReturned : NoteAnswer → ℕ × Note
+noteReturned r = returned noteZero (noteOutcome r)
 
 -- position: finite, from -1e9 to 1e9
 unfoldable pub isPosition : Float → Bool
@@ -80,6 +101,9 @@ unfoldable pub couponAmount : Float → Note → Float → Float
 couponAmount position n fraction = interestOn (nominalOf position n) (n .rate) fraction
 
 -- what the entry points promise of their result r
+abbrev pub PositionPromise : Float → Bool → Type 0
+PositionPromise x r = r ≡ isPosition x
+
 abbrev pub ChecksPromise : Bool → Bool → Note → NoteAnswer → Type 0
 ChecksPromise position table n r = noteOutcome r ≡ noteChecks position table n
 

@@ -2,15 +2,15 @@
 use Prim.Native.Nat.{ℕ, zero, suc, _+_, _-_}
 use mathlib.Core.Path.{_≡_, refl, sym, _∙_}
 use mathlib.Core.List.{List}
-use mathlib.Core.Bool.{Bool}
+use mathlib.Core.Bool.{Bool, false}
 use native.Mathlib.Omega.{arith}
 use Rattle.outcome.specs.Outcome.{Outcome, Numbered, given}
-use Rattle.outcome.proofs.Outcomes.{answerOf, one-answer, unless-numbered, then-numbered, elim-numbered}
+use Rattle.outcome.proofs.Outcomes.{answerOf, one-answer, Returns, returns, unless-numbered, then-numbered, elim-numbered}
 use Rattle.calendar.specs.dates.Dates.{isDay}
 use Rattle.calendar.specs.declared.dates.Day.{Day}
 use Rattle.calendar.specs.declared.serial.DayAnswer.{DayAnswer}
 use Rattle.calendar.proofs.dates.OneOutcome.{same-day-answer}
-use Rattle.business_days.specs.days.Answers.{judged, businessOutcome, TablePromise, BusinessPromise, NextPromise, PreviousPromise, LaterPromise, EarlierPromise}
+use Rattle.business_days.specs.days.Answers.{judged, businessOutcome, businessReturned, TablePromise, BusinessPromise, NextPromise, PreviousPromise, LaterPromise, EarlierPromise}
 use Rattle.business_days.specs.table.Table.{isTable}
 use Rattle.business_days.specs.table.Business.{serialDay, isBusiness, firstOf, nextFrom, lastOf, prevFrom, repeated}
 use Rattle.business_days.specs.declared.days.BusinessAnswer.{BusinessAnswer}
@@ -18,6 +18,10 @@ use Rattle.business_days.specs.declared.days.BusinessAnswer.the-variants
 
 pub same-business-answer : (r s : BusinessAnswer) → businessOutcome r ≡ businessOutcome s → r ≡ s
 same-business-answer r s e = one-answer businessOutcome business-answer.Business business-answer.Refused (λ x. elim x as (λ y. answerOf business-answer.Business business-answer.Refused (businessOutcome y) ≡ y) [ business-answer.Business v ↦ refl | business-answer.Refused n ↦ refl ]) r s e
+
+-- a refusal returns its number and the zero
+pub business-returned : Returns businessOutcome false businessReturned
+business-returned = returns businessOutcome false
 
 module _ (t : List ℕ) where
   pub one-table : (r s : Bool) → TablePromise t r → TablePromise t s → r ≡ s

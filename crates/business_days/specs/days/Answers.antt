@@ -2,9 +2,9 @@
 -- promises.
 use Prim.Native.Nat.{ℕ}
 use mathlib.Core.Path.{_≡_}
-use mathlib.Core.Bool.{Bool}
+use mathlib.Core.Bool.{Bool, false}
 use mathlib.Core.List.{List}
-use Rattle.outcome.specs.Outcome.{Outcome, given, refused, unless}
+use Rattle.outcome.specs.Outcome.{Outcome, given, refused, returned, unless}
 use Rattle.calendar.specs.dates.Dates.{isDay}
 use Rattle.calendar.specs.serial.Answers.{dayOutcome}
 use Rattle.calendar.specs.declared.dates.Day.{Day}
@@ -18,6 +18,10 @@ use Rattle.business_days.specs.declared.days.BusinessAnswer.the-variants
 abbrev pub businessOutcome : BusinessAnswer → Outcome Bool
 businessOutcome (business-answer.Business b) = given b
 businessOutcome (business-answer.Refused n) = refused n
+
+-- what is returned of it; the zero is no
+abbrev pub businessReturned : BusinessAnswer → ℕ × Bool
+businessReturned r = returned false (businessOutcome r)
 
 -- the order: 1 for the date, 13 for the table, then what the search answers
 abbrev pub judged : {A : Type 0} → Day → List ℕ → Outcome A → Outcome A

@@ -5,9 +5,9 @@ use mathlib.Core.Bool.{Bool}
 use native.Mathlib.Omega.{arith}
 use lib.Dec.{leb}
 use Rattle.outcome.specs.Outcome.{Numbered, both}
-use Rattle.outcome.proofs.Outcomes.{unless-numbered, one-value, answerOf, one-answer}
-use Rattle.calendar.specs.dates.Dates.{isDate, isDay, isBefore, isSame}
-use Rattle.calendar.specs.serial.Answers.{dayOutcome, daysOutcome, dateOutcome, weekdayOutcome, dayOf, dateOf, weekdayOf, daysBetween, dayAfter, DayOfPromise, DateOfPromise, WeekdayPromise, DaysBetweenPromise, DayAfterPromise}
+use Rattle.outcome.proofs.Outcomes.{unless-numbered, one-value, answerOf, one-answer, Returns, returns}
+use Rattle.calendar.specs.dates.Dates.{isDate, isDay, IsDatePromise, IsDayPromise, BeforePromise, SamePromise}
+use Rattle.calendar.specs.serial.Answers.{dayOutcome, daysOutcome, dateOutcome, weekdayOutcome, dayZero, daysZero, dateZero, dayReturned, daysReturned, dateReturned, weekdayReturned, dayOf, dateOf, weekdayOf, daysBetween, dayAfter, DayOfPromise, DateOfPromise, WeekdayPromise, DaysBetweenPromise, DayAfterPromise}
 use Rattle.calendar.specs.declared.dates.Day.{Day}
 use Rattle.calendar.specs.declared.dates.Days.{Days}
 use Rattle.calendar.specs.declared.dates.Date.{Date}
@@ -32,17 +32,30 @@ same-date-answer r s e = one-answer dateOutcome date-answer.Date date-answer.Ref
 pub same-weekday-answer : (r s : WeekdayAnswer) → weekdayOutcome r ≡ weekdayOutcome s → r ≡ s
 same-weekday-answer r s e = one-answer weekdayOutcome weekday-answer.Weekday weekday-answer.Refused (λ x. elim x as (λ y. answerOf weekday-answer.Weekday weekday-answer.Refused (weekdayOutcome y) ≡ y) [ weekday-answer.Weekday v ↦ refl | weekday-answer.Refused n ↦ refl ]) r s e
 
+-- a refusal returns its number and the zero
+pub day-returned : Returns dayOutcome dayZero dayReturned
+day-returned = returns dayOutcome dayZero
+
+pub days-returned : Returns daysOutcome daysZero daysReturned
+days-returned = returns daysOutcome daysZero
+
+pub date-returned : Returns dateOutcome dateZero dateReturned
+date-returned = returns dateOutcome dateZero
+
+pub weekday-returned : Returns weekdayOutcome 0 weekdayReturned
+weekday-returned = returns weekdayOutcome 0
+
 -- one answer to each question
-pub one-is-date : (t : Date) (r s : Bool) → r ≡ isDate t → s ≡ isDate t → r ≡ s
+pub one-is-date : (t : Date) (r s : Bool) → IsDatePromise t r → IsDatePromise t s → r ≡ s
 one-is-date t r s p q = one-value r s p q
 
-pub one-is-day : (d : Day) (r s : Bool) → r ≡ isDay d → s ≡ isDay d → r ≡ s
+pub one-is-day : (d : Day) (r s : Bool) → IsDayPromise d r → IsDayPromise d s → r ≡ s
 one-is-day d r s p q = one-value r s p q
 
-pub one-is-before : (a b : Date) (r s : Bool) → r ≡ isBefore a b → s ≡ isBefore a b → r ≡ s
+pub one-is-before : (a b : Date) (r s : Bool) → BeforePromise a b r → BeforePromise a b s → r ≡ s
 one-is-before a b r s p q = one-value r s p q
 
-pub one-is-same : (a b : Date) (r s : Bool) → r ≡ isSame a b → s ≡ isSame a b → r ≡ s
+pub one-is-same : (a b : Date) (r s : Bool) → SamePromise a b r → SamePromise a b s → r ≡ s
 one-is-same a b r s p q = one-value r s p q
 
 pub one-day-of : (t : Date) (r s : DayAnswer) → DayOfPromise t r → DayOfPromise t s → r ≡ s

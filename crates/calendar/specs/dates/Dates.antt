@@ -1,6 +1,7 @@
 -- Dates and serial days of the calendar, which runs from 0001-01-01, day 1, to 9999-12-31, day
 -- 3652059.
 use Prim.Native.Nat.{ℕ, _+_, _-_, _*_, _/_, _%_, min}
+use mathlib.Core.Path.{_≡_}
 use mathlib.Core.Bool.{Bool}
 use lib.Dec.{eqb, leb, ltb}
 use Rattle.outcome.specs.Outcome.{pick, both}
@@ -51,3 +52,16 @@ isBefore a b =
 
 unfoldable pub isSame : Date → Date → Bool
 isSame a b = both (eqb (a .year) (b .year)) (both (eqb (a .month) (b .month)) (eqb (a .day) (b .day)))
+
+-- what the entry points promise of their result r
+abbrev pub IsDatePromise : Date → Bool → Type 0
+IsDatePromise t r = r ≡ isDate t
+
+abbrev pub IsDayPromise : Day → Bool → Type 0
+IsDayPromise d r = r ≡ isDay d
+
+abbrev pub BeforePromise : Date → Date → Bool → Type 0
+BeforePromise a b r = r ≡ isBefore a b
+
+abbrev pub SamePromise : Date → Date → Bool → Type 0
+SamePromise a b r = r ≡ isSame a b

@@ -1,6 +1,7 @@
 -- The proleptic Gregorian calendar (ISO 8601), by counting: leap years, the lengths of months and
 -- years, and the days before each.
 use Prim.Native.Nat.{ℕ, zero, suc, _+_, _-_, _%_}
+use mathlib.Core.Path.{_≡_}
 use mathlib.Core.Bool.{Bool, true, false}
 use mathlib.Core.List.{List, [], _∷_}
 use lib.ListN.{getD}
@@ -44,3 +45,13 @@ beforeMonth y m = daysBefore (monthLength y) m
 unfoldable pub unitHolding : (ℕ → ℕ) → ℕ → ℕ → ℕ → ℕ
 unitHolding f zero u n = u
 unitHolding f (suc k) u n = elim (leb n (f u)) [ true ↦ u | false ↦ unitHolding f k (suc u) (n - f u) ]
+
+-- what the entry points promise of their result r
+abbrev pub LeapPromise : ℕ → Bool → Type 0
+LeapPromise y r = r ≡ leap y
+
+abbrev pub MonthLengthPromise : ℕ → ℕ → ℕ → Type 0
+MonthLengthPromise y m r = r ≡ monthLength y m
+
+abbrev pub YearLengthPromise : ℕ → ℕ → Type 0
+YearLengthPromise y r = r ≡ yearLength y

@@ -2,7 +2,7 @@
 use Prim.Native.Nat.{ℕ, _+_, _-_, _%_}
 use mathlib.Core.Path.{_≡_}
 use lib.Dec.{leb}
-use Rattle.outcome.specs.Outcome.{Outcome, given, refused, unless, both}
+use Rattle.outcome.specs.Outcome.{Outcome, given, refused, returned, unless, both}
 use Rattle.calendar.specs.dates.Dates.{isDate, isDay, dayNumber, theDate}
 use Rattle.calendar.specs.declared.dates.Day.{Day}
 use Rattle.calendar.specs.declared.dates.Days.{Days}
@@ -32,6 +32,28 @@ dateOutcome (date-answer.Refused n) = refused n
 abbrev pub weekdayOutcome : WeekdayAnswer → Outcome ℕ
 weekdayOutcome (weekday-answer.Weekday w) = given w
 weekdayOutcome (weekday-answer.Refused n) = refused n
+
+-- the zeros, and what is returned of each answer
+abbrev pub dayZero : Day
+dayZero = record { 0 = 0 }
+
+abbrev pub daysZero : Days
+daysZero = record { 0 = 0 }
+
+abbrev pub dateZero : Date
+dateZero = record { year = 0; month = 0; day = 0 }
+
+abbrev pub dayReturned : DayAnswer → ℕ × Day
+dayReturned r = returned dayZero (dayOutcome r)
+
+abbrev pub daysReturned : DaysAnswer → ℕ × Days
+daysReturned r = returned daysZero (daysOutcome r)
+
+abbrev pub dateReturned : DateAnswer → ℕ × Date
+dateReturned r = returned dateZero (dateOutcome r)
+
+abbrev pub weekdayReturned : WeekdayAnswer → ℕ × ℕ
+weekdayReturned r = returned 0 (weekdayOutcome r)
 
 -- 1: no such date
 unfoldable pub dayOf : Date → Outcome Day

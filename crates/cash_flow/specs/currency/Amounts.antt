@@ -1,10 +1,11 @@
 -- Currencies, the limits of amounts, and what an amount's answer says.
 use Prim.Native.Nat.{ℕ, _*_}
+use mathlib.Core.Path.{_≡_}
 use mathlib.Core.Bool.{Bool, false}
 use mathlib.Core.List.{List, [], _∷_}
 use lib.Dec.{leb, eqb}
 use lib.Ieee.{Float, nan, inf, fin, up, down}
-use Rattle.outcome.specs.Outcome.{Outcome, given, refused, both}
+use Rattle.outcome.specs.Outcome.{Outcome, given, refused, returned, plusZero, both}
 use Rattle.cash_flow.specs.declared.currency.Currency.{Currency}
 use Rattle.cash_flow.specs.declared.currency.AmountAnswer.{AmountAnswer}
 use Rattle.cash_flow.specs.declared.currency.AmountAnswer.the-variants.{Amount, Refused}
@@ -35,3 +36,17 @@ upTo k (fin s m e) = leb (m * up e) (k * down e)
 abbrev pub amountOutcome : AmountAnswer → Outcome Float
 amountOutcome (Amount x) = given x
 amountOutcome (Refused n) = refused n
+
+-- what is returned of it; the zero is +0.0
+abbrev pub amountReturned : AmountAnswer → ℕ × Float
+amountReturned r = returned plusZero (amountOutcome r)
+
+-- what the entry points promise of their result r
+abbrev pub CurrencyPromise : Currency → Bool → Type 0
+CurrencyPromise c r = r ≡ isCurrency c
+
+abbrev pub SameCurrencyPromise : Currency → Currency → Bool → Type 0
+SameCurrencyPromise a b r = r ≡ isSameCurrency a b
+
+abbrev pub UpToBillionPromise : Float → Bool → Type 0
+UpToBillionPromise x r = r ≡ upTo 1000000000 x

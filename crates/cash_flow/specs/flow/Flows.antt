@@ -3,9 +3,9 @@ use Prim.Native.Nat.{ℕ}
 use mathlib.Core.Path.{_≡_}
 use mathlib.Core.Bool.{Bool, false}
 use lib.Ieee.{Float, nan, inf, fin, binary64, sub, le}
-use Rattle.outcome.specs.Outcome.{Outcome, given, refused, value, both}
+use Rattle.outcome.specs.Outcome.{Outcome, given, refused, value, returned, both}
 use Rattle.calendar.specs.dates.Dates.{isSame}
-use Rattle.calendar.specs.serial.Answers.{dateOf}
+use Rattle.calendar.specs.serial.Answers.{dateZero, dateOf}
 use Rattle.calendar.specs.declared.dates.Date.{Date}
 use Rattle.cash_flow.specs.currency.Amounts.{isSameCurrency}
 use Rattle.cash_flow.specs.declared.flow.CashFlow.{CashFlow}
@@ -17,13 +17,14 @@ abbrev pub flowsOutcome : FlowsAnswer → Outcome ℕ
 flowsOutcome (Flows n) = given n
 flowsOutcome (Refused n) = refused n
 
+-- what is returned of it; the zero is no flows
+abbrev pub flowsReturned : FlowsAnswer → ℕ × ℕ
+flowsReturned r = returned 0 (flowsOutcome r)
+
 -- the date of a serial day in a plain list; a day that does not exist has the zero date of a
 -- refusal
-abbrev pub noDate : Date
-noDate = record { year = 0; month = 0; day = 0 }
-
 unfoldable pub dateOn : ℕ → Date
-dateOn d = value noDate (dateOf (record { 0 = d }))
+dateOn d = value dateZero (dateOf (record { 0 = d }))
 
 -- dates and currencies are equal
 unfoldable pub aggregatableFlows : CashFlow → CashFlow → Bool

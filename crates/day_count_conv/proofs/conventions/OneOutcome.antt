@@ -4,8 +4,8 @@ use mathlib.Core.Bool.{not}
 use native.Mathlib.Omega.{arith}
 use lib.IntN.{pos}
 use lib.Signed.{leZ}
-use Rattle.outcome.specs.Outcome.{given, Numbered, both}
-use Rattle.outcome.proofs.Outcomes.{unless-numbered, then-numbered, answerOf, one-answer}
+use Rattle.outcome.specs.Outcome.{given, plusZero, Numbered, both}
+use Rattle.outcome.proofs.Outcomes.{unless-numbered, then-numbered, answerOf, one-answer, Returns, returns}
 use Rattle.calendar.specs.dates.Dates.{isDate, isBefore}
 use Rattle.calendar.specs.declared.dates.Date.{Date}
 use Rattle.time_period.specs.steps.Periods.{frequencyOf}
@@ -14,7 +14,7 @@ use Rattle.day_fraction.specs.Fractions.{impossible}
 use Rattle.day_fraction.specs.declared.SimpleRule.{SimpleRule}
 use Rattle.icma.specs.parts.Walk.{icmaParts}
 use Rattle.icma.proofs.parts.Numbered.{parts-numbered}
-use Rattle.day_count_conv.specs.conventions.Conventions.{fractionOutcome, Values, simpleFraction, walkedFraction, frequentFraction, icmaFraction, byRule, rollDated, yearFraction, FractionPromise}
+use Rattle.day_count_conv.specs.conventions.Conventions.{fractionOutcome, fractionReturned, Values, simpleFraction, walkedFraction, frequentFraction, icmaFraction, byRule, rollDated, yearFraction, FractionPromise}
 use Rattle.day_count_conv.specs.declared.conventions.DayCountConv.{DayCountConv}
 use Rattle.day_count_conv.specs.declared.conventions.DayCountConv.the-variants as conv
 use Rattle.day_count_conv.specs.declared.conventions.RollDate.{RollDate}
@@ -27,6 +27,10 @@ use Rattle.day_count_conv.specs.declared.conventions.YearFraction.the-va
 
 pub same-fraction-answer : (r s : YearFraction) → fractionOutcome r ≡ fractionOutcome s → r ≡ s
 same-fraction-answer r s e = one-answer fractionOutcome year-fraction.Fraction year-fraction.Refused (λ x. elim x as (λ y. answerOf year-fraction.Fraction year-fraction.Refused (fractionOutcome y) ≡ y) [ year-fraction.Fraction v ↦ refl | year-fraction.Refused n ↦ refl ]) r s e
+
+-- a refusal returns its number and the zero
+pub fraction-returned : Returns fractionOutcome plusZero fractionReturned
+fraction-returned = returns fractionOutcome plusZero
 
 pub one-fraction : (rule : DayCountConv) (start end : Date) (x : NoteTerms) (r s : YearFraction) → FractionPromise rule start end x r → FractionPromise rule start end x s → r ≡ s
 one-fraction rule start end x r s p q = same-fraction-answer r s (p .0 ∙ sym (q .0))

@@ -5,7 +5,7 @@ use mathlib.Core.Bool.{Bool, true, not}
 use lib.IntN.{pos, _+ℤ_, _*ℤ_}
 use lib.Signed.{leZ}
 use lib.Ieee.{Float, binary64, add, mul, div, ofBits}
-use Rattle.outcome.specs.Outcome.{Outcome, given, refused, unless, andThen, both}
+use Rattle.outcome.specs.Outcome.{Outcome, given, refused, returned, plusZero, unless, andThen, both}
 use Rattle.calendar.specs.dates.Dates.{isDate, isBefore}
 use Rattle.calendar.specs.declared.dates.Date.{Date}
 use Rattle.time_period.specs.steps.Periods.{frequencyOf}
@@ -33,6 +33,10 @@ use Rattle.day_count_conv.specs.declared.conventions.NoteTerms.{NoteTerm
 abbrev pub fractionOutcome : YearFraction → Outcome Float
 fractionOutcome (year-fraction.Fraction x) = given x
 fractionOutcome (year-fraction.Refused n) = refused n
+
+-- what is returned of it; the zero is +0.0
+abbrev pub fractionReturned : YearFraction → ℕ × Float
+fractionReturned r = returned plusZero (fractionOutcome r)
 
 -- ICMA: a broken part is added to the sum
 abbrev pub partAdded : Float → Broken → Float

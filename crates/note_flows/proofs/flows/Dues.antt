@@ -1,6 +1,6 @@
 -- What comes next and what is owed for it make the turn that is due.
 use Prim.Native.Nat.{ℕ}
-use mathlib.Core.Path.{_≡_, refl}
+use mathlib.Core.Path.{_≡_, refl, sym, subst}
 use mathlib.Core.Bool.{Bool, true, false}
 use mathlib.Core.List.{List}
 use native.Mathlib.Omega.{arith}
@@ -16,7 +16,7 @@ use Rattle.time_period.proofs.steps.Steps.{step-later}
 use Rattle.bond.proofs.note.Ends.{Accepted, first-end-later}
 use Rattle.note_flows.specs.flows.NoteFlows.{paid, couponFlow}
 use Rattle.note_flows.specs.schedule.Schedule.{Dated, couponTo, eventOf, couponFraction, Spanned, couponPayment, paymentOf}
-use Rattle.note_flows.specs.flows.Turns.{stepOf, Turned}
+use Rattle.note_flows.specs.flows.Turns.{JudgedNote, stepOf, stepFor, nextStep, Turned}
 use Rattle.note_flows.specs.declared.schedule.Event.the-variants as coming
 use Rattle.note_flows.specs.declared.schedule.Due.{Due}
 use Rattle.note_flows.specs.declared.schedule.Due.the-variants.{First, After, Nothing}
@@ -24,7 +24,7 @@ use Rattle.note_flows.specs.declared.schedule.Payment.{Payment}
 use Rattle.note_flows.specs.declared.schedule.Payment.the-variants as owed
 use Rattle.note_flows.specs.declared.flows.Step.{Step}
 use Rattle.note_flows.specs.declared.flows.Step.the-variants.{Stop, End}
-use Rattle.note_flows.proofs.flows.Flows.{coupon-pays, coupon-stops, first-pays, first-stops, next-pays, next-stops, last-pays}
+use Rattle.note_flows.proofs.flows.Flows.{judged-note, coupon-pays, coupon-stops, first-pays, first-stops, next-pays, next-stops, last-pays}
 
 module _ (n : Note) (a : Accepted n) where
   -- the dates of the first coupon, and of a later one
@@ -80,3 +80,13 @@ module _ (n : Note) (a : Accepted n) where
         by true q (refused k) e = next-stops n position table a t d k q e
         by false q o e = (a .matures, λ r. last-pays n position table a t d (nominalOf position n) r q refl)
     makes Nothing d = refl
+
+-- the next step turns
+pub step-turns : (n : Note) (position : Float) (table : List ℕ) → JudgedNote n position table → (due : Due) → Dated due → (r : Step) → r ≡ nextStep n position table due → Turned n position table due r
+unfolding nextStep
+step-turns n position table j due d r e = subst (Turned n position table due) (sym e) (by (paymentOf n position (eventOf n due)) (makes n (judged-note n position table j) position table due d))
+  where
+    by : (p : Payment) → Makes n (judged-note n position table j) position table due p → Turned n position table due (stepFor n table p)
+    by (owed.Pay t x next) m = m .1 _ refl
+    by (owed.Stop k) m = m
+    by owed.End m = m

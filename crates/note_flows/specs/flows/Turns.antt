@@ -12,10 +12,12 @@ use Rattle.business_days.specs.table.Table.{isTable}
 use Rattle.cash_flow.specs.declared.flow.CashFlow.{CashFlow}
 use Rattle.bond.specs.note.Notes.{isPosition, noteChecks}
 use Rattle.bond.specs.declared.note.Note.{Note}
-use Rattle.note_flows.specs.schedule.Schedule.{Dated}
+use Rattle.note_flows.specs.schedule.Schedule.{Dated, eventOf, paymentOf}
 use Rattle.note_flows.specs.declared.schedule.Due.{Due}
 use Rattle.note_flows.specs.declared.schedule.Due.the-variants.{First, After, Nothing}
-use Rattle.note_flows.specs.flows.NoteFlows.{followed, laterFlows, noteFlows, flowDay, amountOf}
+use Rattle.note_flows.specs.declared.schedule.Payment.{Payment}
+use Rattle.note_flows.specs.declared.schedule.Payment.the-variants as owed
+use Rattle.note_flows.specs.flows.NoteFlows.{paid, followed, laterFlows, noteFlows, flowDay, amountOf}
 use Rattle.note_flows.specs.declared.flows.Step.{Step}
 use Rattle.note_flows.specs.declared.flows.Step.the-variants.{Pay, Stop, End}
 
@@ -27,6 +29,15 @@ JudgedNote n position table = noteChecks (isPosition position) (isTable table) n
 abbrev pub stepOf : Outcome CashFlow → Due → Step
 stepOf (given x) next = Pay (flowDay x) x next
 stepOf (refused k) next = Stop k
+
+-- the step that a payment makes, on its adjusted date; and the next step, by what is due
+abbrev pub stepFor : Note → List ℕ → Payment → Step
+stepFor n table (owed.Pay t x next) = stepOf (paid n table t x) next
+stepFor n table (owed.Stop k) = Stop k
+stepFor n table owed.End = End
+
+unfoldable pub nextStep : Note → Float → List ℕ → Due → Step
+nextStep n position table due = stepFor n table (paymentOf n position (eventOf n due))
 
 -- what is left to be paid
 abbrev pub flowsDue : Note → Float → List ℕ → Due → Outcome (List CashFlow)

@@ -3,13 +3,17 @@ use Prim.Native.Nat.{ℕ}
 use mathlib.Core.Path.{_≡_, refl, sym, _∙_}
 use mathlib.Core.List.{List}
 use Rattle.outcome.specs.Outcome.{Outcome}
-use Rattle.outcome.proofs.Outcomes.{answerOf, one-answer}
+use Rattle.outcome.proofs.Outcomes.{answerOf, one-answer, Returns, returns}
 use Rattle.number_text.specs.declared.write.LengthAnswer.{LengthAnswer}
 use Rattle.number_text.specs.declared.write.LengthAnswer.the-variants as length
-use Rattle.number_text.specs.write.Writing.{Wrote, Written, lengthOutcome, Writes, Takes}
+use Rattle.number_text.specs.write.Writing.{Wrote, Written, lengthOutcome, lengthReturned, Writes, Takes}
 
 pub same-length : (r t : LengthAnswer) → lengthOutcome r ≡ lengthOutcome t → r ≡ t
 same-length r t e = one-answer lengthOutcome length.Length length.Refused (λ x. elim x as (λ y. answerOf length.Length length.Refused (lengthOutcome y) ≡ y) [ length.Length v ↦ refl | length.Refused n ↦ refl ]) r t e
+
+-- a refusal returns its number and the zero
+pub length-returned : Returns lengthOutcome 0 lengthReturned
+length-returned = returns lengthOutcome 0
 
 -- ---- writers: the answer and the bytes, whatever the text
 

@@ -5,7 +5,7 @@ use mathlib.Core.Path.{_≡_}
 use mathlib.Core.List.{List, _++_}
 use lib.Dec.{leb}
 use lib.ListN.{length, take, drop, replicate}
-use Rattle.outcome.specs.Outcome.{Outcome, given, refused, unless, andThen, passedAs, pick}
+use Rattle.outcome.specs.Outcome.{Outcome, given, refused, returned, unless, andThen, passedAs, pick}
 unfoldable pub use Rattle.number_text.specs.length.NumberTexts.{digits, placesWithin, places, decimalText, paddedText, signedText}
 pub use Rattle.number_text.specs.length.NumberTexts.{signText, TakesSigned}
 use Rattle.number_text.specs.declared.write.LengthAnswer.{LengthAnswer}
@@ -39,6 +39,10 @@ Written d e xs r = (r ≡ writtenLength d xs) × (e ≡ writtenBytes d xs)
 abbrev pub lengthOutcome : LengthAnswer → Outcome ℕ
 lengthOutcome (Length k) = given k
 lengthOutcome (Refused n) = refused n
+
+-- what is returned of it; the zero is no bytes
+abbrev pub lengthReturned : LengthAnswer → ℕ × ℕ
+lengthReturned r = returned 0 (lengthOutcome r)
 
 -- a text that may be refused: the bytes d once it is written at their start, all the old ones where
 -- it was refused

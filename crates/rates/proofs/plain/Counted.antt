@@ -11,12 +11,13 @@ use borrow.Author.Tests.{leb-true, eqb-true}
 use Rattle.outcome.specs.Outcome.{given, value, both, pick}
 use Rattle.outcome.proofs.Outcomes.{both-true}
 use Rattle.calendar.specs.dates.Dates.{isDate, dayNumber, theDate}
+use Rattle.calendar.specs.serial.Answers.{dateZero}
 use Rattle.calendar.specs.declared.dates.Date.{Date}
 use Rattle.calendar.proofs.dates.Dates.{date-yes, date-is, number-from, number-found, the-date-is}
 use Rattle.calendar.proofs.dates.Inverse.{date-on-day}
 use Rattle.cash_flow.specs.currency.Amounts.{isCurrency, isSameCurrency}
 use Rattle.cash_flow.specs.declared.currency.Currency.{Currency}
-use Rattle.cash_flow.specs.flow.Flows.{noDate, dateOn}
+use Rattle.cash_flow.specs.flow.Flows.{dateOn}
 use Rattle.day_fraction.specs.Fractions.{Span, quotient, days, bits, impossible}
 use Rattle.day_fraction.proofs.Differences.{diff-of, diff-pos}
 use Rattle.day_count_conv.specs.conventions.Conventions.{fractionsInF64, noTerms, simpleFraction}
@@ -45,7 +46,7 @@ one-currency a b c s = rw (c, sym (ap isCurrency (same-currency a b s)) ∙ c, s
 
 date-on : (n : ℕ) → 1 ≤ n → n ≤ 3652059 → dateOn n ≡ theDate n
 unfolding dateOn
-date-on n h k = ap (value noDate) (sym (date-on-day (record { 0 = n }) h k))
+date-on n h k = ap (value dateZero) (sym (date-on-day (record { 0 = n }) h k))
 
 days-over : (rule : DayCountConv) (s e : Date) → 1 ≤ yearDays rule → Span s e → fractionTo rule s e ≡ given (quotient (days s e) (yearDays rule))
 unfolding fractionTo simpleFraction impossible bits

@@ -5,8 +5,8 @@ use native.Mathlib.Omega.{arith}
 use lib.IntN.{pos}
 use lib.Ieee.{Float, binary64, add, mul}
 use lib.Ieee.Scale.{finite}
-use Rattle.outcome.specs.Outcome.{given, Numbered}
-use Rattle.outcome.proofs.Outcomes.{unless-numbered, then-numbered, answerOf, one-answer}
+use Rattle.outcome.specs.Outcome.{given, plusZero, Numbered}
+use Rattle.outcome.proofs.Outcomes.{unless-numbered, then-numbered, answerOf, one-answer, Returns, returns}
 use Rattle.calendar.specs.declared.dates.Date.{Date}
 use Rattle.cash_flow.specs.declared.currency.AmountAnswer.{AmountAnswer}
 use Rattle.cash_flow.proofs.currency.OneOutcome.{same-amount-answer}
@@ -16,13 +16,17 @@ use Rattle.day_count_conv.specs.conventions.Conventions.{fractionsInF64, noTerm
 use Rattle.day_count_conv.specs.declared.conventions.DayCountConv.{DayCountConv}
 use Rattle.day_count_conv.proofs.conventions.OneOutcome.{fraction-numbered}
 use Rattle.rates.specs.factors.Factors.{isDiscountRate, factorOf}
-use Rattle.rates.specs.simple.Rates.{factorOutcome, fractionTo, discountFactor, isOneCurrency, flowValue, discountedFlow, flowAdded, streamFrom, discountedStream, FactorPromise, FlowPromise, StreamPromise}
+use Rattle.rates.specs.simple.Rates.{factorOutcome, factorReturned, fractionTo, discountFactor, isOneCurrency, flowValue, discountedFlow, flowAdded, streamFrom, discountedStream, FactorPromise, FlowPromise, StreamPromise}
 use Rattle.rates.specs.declared.simple.FlatRate.{FlatRate}
 use Rattle.rates.specs.declared.simple.FactorAnswer.{FactorAnswer}
 use Rattle.rates.specs.declared.simple.FactorAnswer.the-variants as factor-answer
 
 pub same-factor-answer : (r s : FactorAnswer) → factorOutcome r ≡ factorOutcome s → r ≡ s
 same-factor-answer r s e = one-answer factorOutcome factor-answer.Factor factor-answer.Refused (λ x. elim x as (λ y. answerOf factor-answer.Factor factor-answer.Refused (factorOutcome y) ≡ y) [ factor-answer.Factor v ↦ refl | factor-answer.Refused n ↦ refl ]) r s e
+
+-- a refusal returns its number and the zero
+pub factor-returned : Returns factorOutcome plusZero factorReturned
+factor-returned = returns factorOutcome plusZero
 
 -- one answer to each question
 module _ (rate : FlatRate) (today : Date) where

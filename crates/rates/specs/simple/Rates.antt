@@ -1,11 +1,12 @@
 -- `Simple` discounting at a flat rate: the factor, one flow, and a stream of flows.
+use Prim.Native.Nat.{ℕ}
 use mathlib.Core.Path.{_≡_}
 use mathlib.Core.Bool.{Bool}
 use mathlib.Core.List.{List, [], _∷_}
 use lib.IntN.{pos}
 use lib.Ieee.{Float, binary64, add, mul}
 use lib.Ieee.Scale.{finite}
-use Rattle.outcome.specs.Outcome.{Outcome, given, refused, unless, andThen, both}
+use Rattle.outcome.specs.Outcome.{Outcome, given, refused, returned, plusZero, unless, andThen, both}
 use Rattle.calendar.specs.declared.dates.Date.{Date}
 use Rattle.cash_flow.specs.currency.Amounts.{isCurrency, isSameCurrency, amountOutcome}
 use Rattle.cash_flow.specs.declared.currency.AmountAnswer.{AmountAnswer}
@@ -26,6 +27,10 @@ zero = whole (pos 0)
 abbrev pub factorOutcome : FactorAnswer → Outcome Float
 factorOutcome (factor-answer.Factor x) = given x
 factorOutcome (factor-answer.Refused n) = refused n
+
+-- what is returned of it; the zero is +0.0
+abbrev pub factorReturned : FactorAnswer → ℕ × Float
+factorReturned r = returned plusZero (factorOutcome r)
 
 -- the fraction from today to the payment date; no roll date and no period are given, so ICMA is
 -- refused 10

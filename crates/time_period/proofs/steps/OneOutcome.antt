@@ -5,9 +5,9 @@ use mathlib.Core.Bool.{not}
 use native.Mathlib.Omega.{arith}
 use lib.IntN.{ℤ}
 use Rattle.outcome.specs.Outcome.{Outcome, given, refused, Numbered}
-use Rattle.outcome.proofs.Outcomes.{unless-numbered, answerOf, one-answer, Only}
+use Rattle.outcome.proofs.Outcomes.{unless-numbered, answerOf, one-answer, Returns, returns, Only}
 use Rattle.calendar.specs.declared.dates.Date.{Date}
-use Rattle.time_period.specs.steps.Periods.{periodOutcome, frequencyOutcome, frequencyOf, FrequencyPromise}
+use Rattle.time_period.specs.steps.Periods.{periodOutcome, frequencyOutcome, periodZero, periodReturned, frequencyReturned, frequencyOf, FrequencyPromise}
 use Rattle.time_period.specs.steps.Steps.{absent, businessStep, unitStep, isLeast, inverseOf, InversePromise}
 use Rattle.time_period.specs.declared.steps.TimePeriodUnit.{TimePeriodUnit}
 use Rattle.time_period.specs.declared.steps.TimePeriodUnit.the-variants.{Daily, BusinessDaily, Weekly, Monthly, Annual}
@@ -24,6 +24,13 @@ same-period-answer r s e = one-answer periodOutcome period-answer.Period period-
 
 pub same-frequency-answer : (r s : FrequencyAnswer) → frequencyOutcome r ≡ frequencyOutcome s → r ≡ s
 same-frequency-answer r s e = one-answer frequencyOutcome frequency-answer.Frequency frequency-answer.Refused (λ x. elim x as (λ y. answerOf frequency-answer.Frequency frequency-answer.Refused (frequencyOutcome y) ≡ y) [ frequency-answer.Frequency v ↦ refl | frequency-answer.Refused n ↦ refl ]) r s e
+
+-- a refusal returns its number and the zero
+pub period-returned : Returns periodOutcome periodZero periodReturned
+period-returned = returns periodOutcome periodZero
+
+pub frequency-returned : Returns frequencyOutcome 0 frequencyReturned
+frequency-returned = returns frequencyOutcome 0
 
 module _ (p : TimePeriod) where
   pub one-frequency : (r s : FrequencyAnswer) → FrequencyPromise p r → FrequencyPromise p s → r ≡ s

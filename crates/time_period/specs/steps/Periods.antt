@@ -2,8 +2,8 @@
 use Prim.Native.Nat.{ℕ}
 use mathlib.Core.Path.{_≡_}
 use lib.Dec.{eqb}
-use lib.IntN.{natAbs}
-use Rattle.outcome.specs.Outcome.{Outcome, given, refused, pick}
+use lib.IntN.{pos, natAbs}
+use Rattle.outcome.specs.Outcome.{Outcome, given, refused, returned, pick}
 use Rattle.time_period.specs.declared.steps.TimePeriodUnit.{TimePeriodUnit}
 use Rattle.time_period.specs.declared.steps.TimePeriodUnit.the-variants.{Daily, BusinessDaily, Weekly, Monthly, Annual}
 use Rattle.time_period.specs.declared.steps.TimePeriod.{TimePeriod}
@@ -26,6 +26,16 @@ frequencyOutcome (frequency-answer.Refused n) = refused n
 abbrev pub unitOutcome : UnitAnswer → Outcome TimePeriodUnit
 unitOutcome (unit-answer.Unit u) = given u
 unitOutcome (unit-answer.Refused n) = refused n
+
+-- the zero of a period, and what is returned of an answer
+abbrev pub periodZero : TimePeriod
+periodZero = record { num = pos 0; unit = Daily }
+
+abbrev pub periodReturned : PeriodAnswer → ℕ × TimePeriod
+periodReturned r = returned periodZero (periodOutcome r)
+
+abbrev pub frequencyReturned : FrequencyAnswer → ℕ × ℕ
+frequencyReturned r = returned 0 (frequencyOutcome r)
 
 -- 1, 3, 6, 12 months give 12, 4, 2, 1
 unfoldable pub monthsFrequency : ℕ → Outcome ℕ

@@ -1,8 +1,8 @@
 -- `cash_flow::date_or_none` meets its contract: the date, or the zero of a refusal.
 use mathlib.Core.Path.{sym, ap, _∙_}
 use Rattle.outcome.specs.Outcome.{value}
-use Rattle.calendar.specs.serial.Answers.{dateOutcome}
-use Rattle.cash_flow.specs.flow.Flows.{noDate, dateOn}
+use Rattle.calendar.specs.serial.Answers.{dateOutcome, dateZero}
+use Rattle.cash_flow.specs.flow.Flows.{dateOn}
 use borrow.Author.Needs.{needs}
 use Rattle.cash_flow.proofs.flow.date_or_none.Statement.{statement}
 use Rattle.cash_flow.proofs.flow.date_or_none.Tie as tie
@@ -21,11 +21,11 @@ no-date-requires c κs = search needs
 
 returns : tie.Need-returns
 unfolding dateOn
-returns c = sym (ap (value noDate) (sym (c .before .before .before .date-of .ensures) ∙ ap dateOutcome (c .before .date .given .1)))
+returns c = sym (ap (value dateZero) (sym (c .before .before .before .date-of .ensures) ∙ ap dateOutcome (c .before .date .given .1)))
 
 returns-2 : tie.Need-returns-2
 unfolding dateOn
-returns-2 c = c .no-date .ensures ∙ sym (ap (value noDate) (sym (c .before .before .before .before .date-of .ensures) ∙ ap dateOutcome (c .before .before .-n .given .1)))
+returns-2 c = c .no-date .ensures ∙ sym (ap (value dateZero) (sym (c .before .before .before .before .date-of .ensures) ∙ ap dateOutcome (c .before .before .-n .given .1)))
 
 pub date-or-none-spec : {M : Type 1} → statement M
 date-or-none-spec =

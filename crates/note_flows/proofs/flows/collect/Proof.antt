@@ -5,6 +5,7 @@ use native.Mathlib.Omega.{arith}
 use borrow.Author.Needs.{needs}
 use Rattle.note_flows.specs.flows.NoteFlows.{flowDay}
 use Rattle.note_flows.specs.flows.Turns.{most, Pays, Turned}
+use Rattle.note_flows.proofs.flows.Dues.{step-turns}
 use Rattle.note_flows.proofs.flows.Collecting.{Collecting, counting-stop, counting-end, collecting-none, collecting-more, collecting-stop, collecting-end}
 use Rattle.note_flows.proofs.flows.collect.Statement.{statement}
 use Rattle.note_flows.proofs.flows.collect.Tie as tie
@@ -24,10 +25,15 @@ next-flow-near-requires c κs = (c .before .before .before .before .pre, c .loop
 enum-known-step : tie.Need-enum-known-step Inv-loop μ-loop
 enum-known-step c = search needs
 
--- the step pays
+-- the step turns, and where it pays
+turned-at : (c : tie.After-next-flow-near Inv-loop μ-loop) → Turned (c .before .before .before .before .before .args .note) (c .before .before .before .before .before .args .position) (c .before .before .before .before .before .args .table .now) (c .before .loop .due) (c .next-flow-near .result .step)
+turned-at c =
+    let s : tie.Start Inv-loop μ-loop = c .before .before .before .before .before in
+    step-turns (s .args .note) (s .args .position) (s .args .table .now) (s .pre) (c .before .loop .due) (c .before .loop .inv .counting .dated) _ (c .next-flow-near .ensures)
+
 module _ (c : tie.After-step Inv-loop μ-loop) where
   pays : Pays (c .before .before .before .before .before .before .before .args .note) (c .before .before .before .before .before .before .before .args .position) (c .before .before .before .before .before .before .before .args .table .now) (c .before .before .before .loop .due) (c .step .given .0 .1 .0) (c .step .given .0 .1 .1 .0) × (c .step .given .0 .0 ≡ flowDay (c .step .given .0 .1 .0))
-  pays = subst (Turned _ _ _ (c .before .before .before .loop .due)) (c .step .given .1) (c .before .before .next-flow-near .ensures)
+  pays = subst (Turned _ _ _ (c .before .before .before .loop .due)) (c .step .given .1) (turned-at (c .before .before))
 
 keep-day-requires : tie.Need-keep-day-requires Inv-loop μ-loop
 keep-day-requires c κs = search needs
@@ -56,7 +62,7 @@ same-length-2 c = c .before .before .before .before .loop .inv .as-many-amounts
 returns : tie.Need-returns Inv-loop μ-loop
 returns c =
     let l = c .before .before .before .before in
-    let e = subst (Turned _ _ _ (l .loop .due)) (c .before .step2 .given .1) (c .before .before .before .next-flow-near .ensures) in
+    let e = subst (Turned _ _ _ (l .loop .due)) (c .before .step2 .given .1) (turned-at (c .before .before .before)) in
     (counting-stop _ _ _ (l .loop .inv .counting) e, collecting-stop _ _ _ _ _ (l .loop .inv) e)
 
 enum-told : tie.Need-enum-told Inv-loop μ-loop
@@ -71,7 +77,7 @@ same-length-4 c = c .before .before .before .loop .inv .as-many-amounts
 returns-2 : tie.Need-returns-2 Inv-loop μ-loop
 returns-2 c =
     let l = c .before .before .before in
-    let e = subst (Turned _ _ _ (l .loop .due)) (c .enum-told .given .1) (c .before .before .next-flow-near .ensures) in
+    let e = subst (Turned _ _ _ (l .loop .due)) (c .enum-told .given .1) (turned-at (c .before .before)) in
     (counting-end _ _ _ (l .loop .inv .counting) e, collecting-end _ _ _ _ _ (l .loop .inv) e)
 
 pub collect-spec : {M : Type 1} → statement M

@@ -1,8 +1,8 @@
--- `note_flows::next_flow_near` meets its contract: what is owed for what comes makes the next flow
--- that is due.
-use mathlib.Core.Path.{sym, _∙_, ap, subst}
+-- `note_flows::next_flow_near` meets its contract: what is owed for what comes makes the next step.
+use mathlib.Core.Path.{_≡_, sym, _∙_, ap, subst}
 use Rattle.bond.proofs.note.Ends.{Accepted}
-use Rattle.note_flows.specs.schedule.Schedule.{Spanned, paymentOf}
+use Rattle.note_flows.specs.schedule.Schedule.{Spanned, eventOf, paymentOf}
+use Rattle.note_flows.specs.flows.Turns.{stepFor, nextStep}
 use Rattle.note_flows.specs.declared.schedule.Payment.{Payment}
 use Rattle.note_flows.proofs.flows.Dues.{Makes, spanned, makes}
 use Rattle.note_flows.proofs.flows.Flows.{judged-note, judged-table}
@@ -18,10 +18,20 @@ accepted s = judged-note (s .args .note) (s .args .position) (s .args .table .no
 abbrev Made : tie.Start → Payment → Type 0
 Made s = Makes (s .args .note) (accepted s) (s .args .position) (s .args .table .now) (s .args .due)
 
+-- what is owed, by what is due
+module _ (c : tie.After-payment-for) where
+  found : c .payment-for .result ≡ paymentOf (c .before .before .before .args .note) (c .before .before .before .args .position) (eventOf (c .before .before .before .args .note) (c .before .before .before .args .due))
+  found = c .payment-for .ensures ∙ ap (paymentOf (c .before .before .before .args .note) (c .before .before .before .args .position)) (c .before .next-event .ensures)
+
+  -- it makes the step
+  stepped-by : {p : Payment} → c .payment-for .result ≡ p → stepFor (c .before .before .before .args .note) (c .before .before .before .args .table .now) p ≡ nextStep (c .before .before .before .args .note) (c .before .before .before .args .position) (c .before .before .before .args .table .now) (c .before .before .before .args .due)
+  unfolding nextStep
+  stepped-by e = ap (stepFor (c .before .before .before .args .note) (c .before .before .before .args .table .now)) (sym e ∙ found)
+
 made : (c : tie.After-payment-for) → Made (c .before .before .before) (c .payment-for .result)
 made c =
     let s : tie.Start = c .before .before .before in
-    subst (Made s) (sym (c .payment-for .ensures ∙ ap (paymentOf (s .args .note) (s .args .position)) (c .before .next-event .ensures))) (makes (s .args .note) (accepted s) (s .args .position) (s .args .table .now) (s .args .due) (s .pre .1))
+    subst (Made s) (sym (found c)) (makes (s .args .note) (accepted s) (s .args .position) (s .args .table .now) (s .args .due) (s .pre .1))
 
 next-event-requires : tie.Need-next-event-requires
 next-event-requires c κs = search needs
@@ -46,13 +56,13 @@ enum-told : tie.Need-enum-told
 enum-told c = search needs
 
 returns : tie.Need-returns
-returns c = subst (Made (c .before .before .before .before .before .before .before)) (c .before .before .t .given .1) (made (c .before .before .before .before)) .1 _ (c .pay .ensures)
+returns c = c .pay .ensures ∙ stepped-by (c .before .before .before .before) (c .before .before .t .given .1)
 
 returns-2 : tie.Need-returns-2
-returns-2 c = subst (Made (c .before .before .before .before .before .before)) (c .before .k .given .1) (made (c .before .before .before))
+returns-2 c = stepped-by (c .before .before .before) (c .before .k .given .1)
 
 returns-3 : tie.Need-returns-3
-returns-3 c = subst (Made (c .before .before .before .before .before)) (c .enum-told .given .1) (made (c .before .before))
+returns-3 c = stepped-by (c .before .before) (c .enum-told .given .1)
 
 pub next-flow-near-spec : {M : Type 1} → statement M
 next-flow-near-spec =

@@ -2,6 +2,7 @@
 -- next flow pays.
 use mathlib.Core.Path.{subst}
 use Rattle.note_flows.specs.flows.Turns.{Turned}
+use Rattle.note_flows.proofs.flows.Dues.{step-turns}
 use Rattle.rollout.proofs.buffer.Kept.{kept-dated, came-kept, still-dated, must-pay, came-due}
 use borrow.Author.Needs.{needs}
 use Rattle.rollout.proofs.buffer.flow_at.Statement.{statement}
@@ -34,18 +35,24 @@ next-flow-requires c κs =
     let s : tie.Start = c .before .before in
     (s .pre .0 .judged, still-dated (s .args .note) (s .args .position) (s .args .table .now) (s .args .days .now) (s .args .amounts .now) (s .args .n) (s .args .k) (s .args .before .next) (s .pre .0) (s .pre .1) (c .if1 .left))
 
+-- the step that was taken turns
+turned-at : (c : tie.After-next-flow) → Turned (c .before .before .before .args .note) (c .before .before .before .args .position) (c .before .before .before .args .table .now) (c .before .before .before .args .before .next) (c .next-flow .result)
+turned-at c =
+    let s : tie.Start = c .before .before .before in
+    step-turns (s .args .note) (s .args .position) (s .args .table .now) (s .pre .0 .judged) (s .args .before .next) (still-dated (s .args .note) (s .args .position) (s .args .table .now) (s .args .days .now) (s .args .amounts .now) (s .args .n) (s .args .k) (s .args .before .next) (s .pre .0) (s .pre .1) (c .before .if1 .left)) _ (c .next-flow .ensures)
+
 enum-known-flow : tie.Need-enum-known-flow
 enum-known-flow c = search needs
 
 returns-2 : tie.Need-returns-2
 returns-2 c =
     let s : tie.Start = c .before .before .before .before in
-    absurd (must-pay (s .args .note) (s .args .position) (s .args .table .now) (s .args .days .now) (s .args .amounts .now) (s .args .n) (s .args .k) (s .args .before .next) (s .pre .0) (s .pre .1) (c .before .before .if1 .left) (c .before .next-flow .result) (c .before .next-flow .ensures) (c .match .keys2))
+    absurd (must-pay (s .args .note) (s .args .position) (s .args .table .now) (s .args .days .now) (s .args .amounts .now) (s .args .n) (s .args .k) (s .args .before .next) (s .pre .0) (s .pre .1) (c .before .before .if1 .left) (c .before .next-flow .result) (turned-at (c .before)) (c .match .keys2))
 
 returns-3 : tie.Need-returns-3
 returns-3 c =
     let s : tie.Start = c .before .before .before .before .before .before in
-    came-due (s .args .note) (s .args .position) (s .args .table .now) (s .args .days .now) (s .args .amounts .now) (s .args .n) (s .args .k) (s .args .before .next) (s .pre .0) (s .pre .1) (c .before .before .before .before .if1 .left) _ _ (subst (Turned (s .args .note) (s .args .position) (s .args .table .now) (s .args .before .next)) (c .before .flow .given .1) (c .before .before .before .next-flow .ensures) .0)
+    came-due (s .args .note) (s .args .position) (s .args .table .now) (s .args .days .now) (s .args .amounts .now) (s .args .n) (s .args .k) (s .args .before .next) (s .pre .0) (s .pre .1) (c .before .before .before .before .if1 .left) _ _ (subst (Turned (s .args .note) (s .args .position) (s .args .table .now) (s .args .before .next)) (c .before .flow .given .1) (turned-at (c .before .before .before)) .0)
 
 pub flow-at-spec : {M : Type 1} → statement M
 flow-at-spec =

@@ -17,7 +17,7 @@ pub enum AdjustmentAnswer {
     Refused(u32),
 }
 
-// Inner: for the crates of the register; 18: there is none.
+// Inner: the unit of a packed code; 18: there is none.
 pub fn unit_of_code(code: u32) -> UnitAnswer
     ensures { λ r. ⌜ unitOutcome r ≡ unitOfCode code ⌝ }
 {
@@ -31,6 +31,7 @@ pub fn unit_of_code(code: u32) -> UnitAnswer
     }
 }
 
+// Inner: a unit's packed code.
 pub fn code_of_unit(unit: TimePeriodUnit) -> u32
     ensures { λ r. ⌜ r ≡ codeOfUnit unit ⌝ }
 {
@@ -43,6 +44,7 @@ pub fn code_of_unit(unit: TimePeriodUnit) -> u32
     }
 }
 
+// The day count convention of a packed code; 18: there is none.
 pub fn convention_of_code(code: u32) -> ConventionAnswer
     ensures { λ r. ⌜ conventionOutcome r ≡ conventionOfCode code ⌝ }
 {
@@ -57,6 +59,7 @@ pub fn convention_of_code(code: u32) -> ConventionAnswer
     }
 }
 
+// A convention's packed code.
 pub fn code_of_convention(rule: DayCountConv) -> u32
     ensures { λ r. ⌜ r ≡ codeOfConvention rule ⌝ }
 {
@@ -70,6 +73,7 @@ pub fn code_of_convention(rule: DayCountConv) -> u32
     }
 }
 
+// Inner: the adjustment of a packed code; 18: there is none.
 pub fn adjustment_of_code(code: u32) -> AdjustmentAnswer
     ensures { λ r. ⌜ adjustmentOutcome r ≡ adjustmentOfCode code ⌝ }
 {
@@ -82,6 +86,7 @@ pub fn adjustment_of_code(code: u32) -> AdjustmentAnswer
     }
 }
 
+// Inner: an adjustment's packed code.
 pub fn code_of_adjustment(rule: DayAdjust) -> u32
     ensures { λ r. ⌜ r ≡ codeOfAdjustment rule ⌝ }
 {

@@ -1,12 +1,12 @@
 -- Codes as places in a list: one law for the three tables, and what each table gives.
-use Prim.Native.Nat.{ℕ, zero, suc, _+_, _≤_, _<_}
+use Prim.Native.Nat.{ℕ, zero, suc, _≤_, _<_}
 use mathlib.Core.Path.{_≡_, refl, sym, ap, _∙_}
 use mathlib.Core.List.{List, [], _∷_, map}
 use native.Mathlib.Nat.{zero-add}
 use native.Mathlib.Omega.{arith}
 use lib.ListN.{length, getD, List·getD-map}
 use Rattle.outcome.specs.Lists.{valuesFrom}
-use Rattle.outcome.specs.Outcome.{Outcome, given, refused, Numbered}
+use Rattle.outcome.specs.Outcome.{given, refused, Numbered}
 use Rattle.outcome.proofs.Lists.{value-at}
 use Rattle.outcome.proofs.Outcomes.{given-injective, given-not-refused}
 use Rattle.time_period.specs.declared.steps.TimePeriodUnit.{TimePeriodUnit}

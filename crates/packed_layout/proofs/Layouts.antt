@@ -6,7 +6,7 @@ use native.Mathlib.Nat.{add-zero, add-assoc, zero-add, mul-suc}
 use native.Mathlib.Numerals.{add-one}
 use native.Mathlib.Omega.{arith}
 use lib.ListN.{length, take, drop, set, getD, replicate, length-append, take-append-drop}
-use lib.Seq.{drop-drop, drop-length, getD-drop, take-length, length-take-le}
+use lib.Seq.{drop-drop, drop-length, getD-drop, take-length}
 use Rattle.outcome.specs.Lists.{valuesFrom}
 use Rattle.outcome.proofs.Filling.{Filled, filled-more, filled-all}
 use Rattle.outcome.proofs.Lists.{head-at, take-more, every-at}

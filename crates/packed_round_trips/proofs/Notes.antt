@@ -6,14 +6,13 @@ use mathlib.Core.List.{List, map}
 use native.Mathlib.Nat.{add-sub-of-le, add-sub-cancel-left}
 use native.Mathlib.Omega.{arith}
 use borrow.Author.Tests.{le-leb, eqb-true}
-use lib.Dec.{T, leb, eqb}
+use lib.Dec.{T, leb}
 use lib.IntN.{pos}
 use lib.ListN.{length}
 use lib.Ieee.{binary64, ofBits, isNan}
 use lib.Ieee.Bits.{ofBits-toBits, toBits-ofBits}
 use Rattle.outcome.specs.Outcome.{given, both}
 use Rattle.outcome.proofs.Outcomes.{both-true}
-use Rattle.bond.specs.limits.Limits.{isCouponRate}
 use Rattle.bond.specs.note.Notes.{noteChecks}
 use Rattle.bond.specs.declared.note.Note.{Note}
 use Rattle.bond.specs.declared.limits.NoteNumber.{NoteNumber}

@@ -5,7 +5,7 @@ use mathlib.Core.List.{List, _∷_, _++_}
 use native.Mathlib.Omega.{arith}
 use lib.ListN.{length, drop, getD, replicate, length-replicate}
 use Rattle.outcome.proofs.Lists.{length-values}
-use Rattle.bit_fields.specs.Bits.{Field, inBits, fieldsBits, bitsOf, field}
+use Rattle.bit_fields.specs.Bits.{Field, inBits, fieldsBits, bitsOf}
 use Rattle.packed_layout.specs.Layouts.{total, numbersFrom, fieldsFrom, AllFit}
 use Rattle.packed_layout.specs.NoteLayout.{countPlace, dayPlace, tableFields, bitLength}
 use Rattle.packed_layout.proofs.Layouts.{same-width, read-put, put-read, same-numbers}

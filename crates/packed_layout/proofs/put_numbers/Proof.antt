@@ -3,7 +3,6 @@ use Prim.Native.Nat.{_-_, _≤_}
 use mathlib.Core.Path.{_≡_}
 use native.Mathlib.Omega.{arith}
 use borrow.Author.Needs.{needs}
-use denote.Ref.{now}
 use lib.ListN.{take}
 use Rattle.bit_fields.specs.BitWriters.{FieldsPut}
 use Rattle.bit_fields.proofs.BitWriters.{put-none}

@@ -59,7 +59,7 @@ C_SHAPES = {
     "another number is looked up as a code": "convention_as_unit",
     "day and month are exchanged": "today_month_for_day",
     "letters of a currency are exchanged": "letters_turned",
-    "0 is returned for a refusal": "refused_weekday_as_0",
+    "0 is returned for a refusal": "refused_code_as_0",
 }
 INNER = "// Inner:"
 MOST_EDITS = 3

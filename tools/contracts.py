@@ -7,10 +7,10 @@
 It reads docs/contracts-head.md, which is the file's beginning, and of every library: the comment
 and the contract of each function that its door hands on (src), the definitions that the contracts
 name (specs), the theorems of one outcome (proofs/**/OneOutcome.antt) and the wrong edits
-(must-fail). It ends with 1 as well where an entry point has no theorem or no comment, where an
-edit's old text is not in its file, where a door lists a function on the wrong side of `// Inner:`,
-or where the head names what there is not. On standard error it counts the entry points without an
-edit of their own crate.
+(must-fail). It ends with 1 as well where an entry point has no theorem, no comment or no edit of
+its own crate, where the C face has no edit of a shape, where an edit's old text is not in its file,
+where a door lists a function on the wrong side of `// Inner:`, or where the head or
+compare/faults.txt names what there is not.
 """
 import collections
 import difflib
@@ -25,6 +25,7 @@ import sources
 
 HEAD = os.path.join(sources.ROOT, "docs/contracts-head.md")
 DOCUMENT = os.path.join(sources.ROOT, "docs/CONTRACTS.md")
+FAULTS = os.path.join(sources.ROOT, "compare/faults.txt")
 
 # Document 01's order: its subjects, and the crates of each. A crate that is not here comes last.
 CHAPTERS = [
@@ -49,6 +50,17 @@ CHAPTERS = [
     ("What the others rest on, and the desk card", ["outcome", "rounding", "desk_card"]),
 ]
 C_FACE = "c_face"
+# The functions for C all hand over alike, so that each way to go wrong is tried on one of them.
+C_SHAPES = {
+    "two arguments are exchanged": "dates_turned",
+    "another function is called": "sub_adds",
+    "a constant stands for an argument": "position_left_out",
+    "a value is written to another's place": "month_to_the_days_place",
+    "another number is looked up as a code": "convention_as_unit",
+    "day and month are exchanged": "today_month_for_day",
+    "letters of a currency are exchanged": "letters_turned",
+    "0 is returned for a refusal": "refused_code_as_0",
+}
 INNER = "// Inner:"
 MOST_EDITS = 3
 WIDTH = 100
@@ -311,6 +323,10 @@ class Register:
     def edits_column(self, item):
         edits = self.edits_of(item)
         self.named_edits.update((e.crate, e.label) for e, _ in edits)
+        if not edits and item.crate == C_FACE:
+            return "by shape"
+        if not edits:
+            self.problems.say(f"{item.crate}::{item.name} has no wrong edit of its own crate")
         return "; ".join(edit_text(e, of_definition) for e, of_definition in edits) or "none"
 
     def not_named(self, crate):
@@ -443,9 +459,29 @@ def check_head(register, head):
     return set(NAMED_FUNCTION.findall(exception))
 
 
+def check_shapes(register, head):
+    """Each shape of the C face has its edit, and the head names the two in one row."""
+    labels = {e.label for e in register.crates[C_FACE].edits}
+    for shape, label in C_SHAPES.items():
+        if label not in labels:
+            register.problems.say(f"{C_FACE} has no edit {label}, by which {shape}")
+        if f"| {shape} | `{C_FACE}/{label}` |" not in head:
+            register.problems.say(f"the head has no row of {C_FACE}/{label}, by which {shape}")
+
+
+def check_faults(register):
+    """Each row of compare/faults.txt names a wrong edit."""
+    edits = {f"{e.crate}/{e.label}" for c in register.crates.values() for e in c.edits}
+    for line in sources.read(FAULTS).splitlines():
+        if not line.startswith("#") and line.split()[-1] not in edits:
+            register.problems.say(f"compare/faults.txt names {line.split()[-1]}, no wrong edit")
+
+
 def document(register):
     head = sources.read(HEAD)
     marked = check_head(register, head)
+    check_shapes(register, head)
+    check_faults(register)
     titles = chapters(register)
     head = head.replace(ZEROS, zeros(register, titles)).rstrip("\n")
     lines = [head, ""] + contents(titles) + [counts(register), ""]
@@ -461,17 +497,6 @@ def stale_lines(old, new):
     return [line for line in changed if not line.startswith(("@@", "---", "+++"))]
 
 
-def tell_without_edit(register):
-    """A count and the names, on standard error: it makes nothing fail."""
-    without = []
-    for crate in register.crates.values():
-        untried = [i for i in entry_points(crate) if not register.edits_of(i)]
-        without += [f"{crate.name}::{i.name}" for i in untried]
-    if without:
-        print(f"{len(without)} entry points without an edit of their own crate:", file=sys.stderr)
-        print("  " + "\n  ".join(without), file=sys.stderr)
-
-
 def main():
     register = Register()
     text = document(register)
@@ -485,7 +510,6 @@ def main():
         print(line)
     for problem in register.problems:
         print("contracts: " + problem)
-    tell_without_edit(register)
     sys.exit(1 if stale or register.problems else 0)
 
 

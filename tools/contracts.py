@@ -229,9 +229,7 @@ class Register:
 
     def tells(self, name, crate, file):
         """Not of a row: how outcomes are joined, how an answer is one, and C's plain numbers."""
-        if (crate, file) == ("outcome", "Outcome.antt"):
-            return name == "number"
-        if name.endswith("Outcome"):
+        if (crate, file) == ("outcome", "Outcome.antt") or name.endswith("Outcome"):
             return False
         if (crate, file) != ("c_values", "arguments/Numbers.antt"):
             return True

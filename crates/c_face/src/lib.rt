@@ -3,7 +3,7 @@
 ghost use mathlib.Core.Path.{_≡_};
 ghost use mathlib.Core.Bool.{true};
 ghost use lib.ListN.{length};
-ghost use Rattle.outcome.specs.Outcome.{given, number, andThen, passedAs};
+ghost use Rattle.outcome.specs.Outcome.{given, andThen, passedAs};
 ghost use Rattle.calendar.specs.serial.Answers.{dayOf, dateOf, weekdayOf, daysBetween};
 ghost use Rattle.time_period.specs.steps.Periods.{frequencyOf};
 ghost use Rattle.time_period.specs.steps.Steps.{absent, table};
@@ -28,7 +28,7 @@ ghost use Rattle.note_listing.specs.note.Listing.{listing};
 ghost use Rattle.fixed_income.specs.plain.Plain.{plainFlows, shortest, listedWritten};
 ghost use Rattle.rates.specs.simple.Rates.{discountFactor, discountedStream};
 ghost use Rattle.rates.specs.plain.Plain.{flowsOf};
-ghost use Rattle.c_values.specs.answers.HandOver.{HandsOver, yesNo};
+ghost use Rattle.c_values.specs.answers.HandOver.{HandsOver, ReturnsNumber, yesNo};
 ghost use Rattle.c_values.specs.answers.Coded.{coded};
 ghost use Rattle.c_values.specs.arguments.Numbers.{serialDay, date, coupon, currency, flow, periodOfNumbers, flatRate, noteNumber, noteOf};
 ghost use Rattle.c_face.specs.Rooms.{textIn, flowRooms, listedIn};
@@ -225,7 +225,7 @@ pub extern "C" fn notes_sub_from_with(
 // The check of a day and a month as a coupon date, 0 where they are one; refused 7, 8.
 #[no_mangle]
 pub extern "C" fn notes_new_coupon_date(day: u32, month: u32) -> u32
-    ensures { λ r. ⌜ r ≡ number (couponDate day month) ⌝ }
+    ensures { λ r. ⌜ ReturnsNumber (couponDate day month) r ⌝ }
 {
     c_values::hand_coupon_check(coupon_date::new_coupon_date(day, month))
 }
@@ -513,7 +513,7 @@ pub extern "C" fn notes_check_note(
     c2: u8,
     c3: u8,
 ) -> u32
-    ensures { λ r. ⌜ r ≡ number (andThen (noteOf (noteNumber «number_count» «number_digits») (date «issue_year» «issue_month» «issue_day») (date «maturity_year» «maturity_month» «maturity_day») (coupon «coupon_day» «coupon_month») «period_num» «period_unit» convention adjustment denomination rate (currency c1 c2 c3)) (noteChecks true true)) ⌝ }
+    ensures { λ r. ⌜ ReturnsNumber (andThen (noteOf (noteNumber «number_count» «number_digits») (date «issue_year» «issue_month» «issue_day») (date «maturity_year» «maturity_month» «maturity_day») (coupon «coupon_day» «coupon_month») «period_num» «period_unit» convention adjustment denomination rate (currency c1 c2 c3)) (noteChecks true true)) r ⌝ }
 {
     match c_values::note_of(
         number_count,

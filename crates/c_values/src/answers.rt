@@ -3,9 +3,9 @@
 // How days, dates and coupon dates are handed over to C.
 // How the other answers are handed over to C, and all of them under one name for `c_face`.
 ghost use mathlib.Core.Path.{_≡_};
-ghost use Rattle.outcome.specs.Outcome.{given, number, passedAs};
+ghost use Rattle.outcome.specs.Outcome.{given, passedAs};
 ghost use Rattle.number_text.specs.write.Writing.{lengthOutcome};
-ghost use Rattle.c_values.specs.answers.HandOver.{HandsOver, yesNo};
+ghost use Rattle.c_values.specs.answers.HandOver.{HandsOver, ReturnsNumber, yesNo};
 ghost use Rattle.calendar.specs.serial.Answers.{dayOutcome, daysOutcome, dateOutcome, weekdayOutcome};
 ghost use Rattle.coupon_date.specs.Coupons.{couponOutcome};
 ghost use Rattle.business_days.specs.days.Answers.{businessOutcome};
@@ -131,7 +131,7 @@ pub fn hand_coupon(a: CouponAnswer, day: &mut u32, month: &mut u32) -> u32
 
 // Inner: hands C 0 for a coupon date, or the refusal's number.
 pub fn hand_coupon_check(a: CouponAnswer) -> u32
-    ensures { λ r. ⌜ r ≡ number (couponOutcome a) ⌝ }
+    ensures { λ r. ⌜ ReturnsNumber (couponOutcome a) r ⌝ }
 {
     match a {
         CouponAnswer::Coupon(_) => ANSWERED,
@@ -232,7 +232,7 @@ pub fn hand_flows(a: FlowsAnswer, count: &mut usize) -> u32
 
 // Inner: hands C 0 for a note, or the refusal's number.
 pub fn hand_note_check(a: NoteAnswer) -> u32
-    ensures { λ r. ⌜ r ≡ number (noteOutcome a) ⌝ }
+    ensures { λ r. ⌜ ReturnsNumber (noteOutcome a) r ⌝ }
 {
     match a {
         NoteAnswer::Note(_) => ANSWERED,

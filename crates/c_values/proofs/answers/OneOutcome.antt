@@ -3,16 +3,16 @@
 use Prim.Native.Nat.{ℕ}
 use mathlib.Core.Path.{_≡_, sym, _∙_, ap}
 use native.Mathlib.Omega.{arith}
-use Rattle.outcome.specs.Outcome.{Outcome, given, refused, number, Numbered}
+use Rattle.outcome.specs.Outcome.{Outcome, given, refused, Numbered}
 use Rattle.outcome.proofs.Outcomes.{one-value, fixed-by-parts}
-use Rattle.c_values.specs.answers.HandOver.{HandsOver}
+use Rattle.c_values.specs.answers.HandOver.{HandsOver, ReturnsNumber}
 
 -- no second number, and no second contents, of all that is lent
 pub one-handed : {A : Type 0} (o : Outcome A) (r s : ℕ) (old a b : A) → HandsOver o r old a → HandsOver o s old b → (r ≡ s) × (a ≡ b)
 one-handed o r s old a b p q = (one-value r s (p .0) (q .0), one-value a b (p .1) (q .1))
 
 -- of a check there is the number alone
-pub one-number : {A : Type 0} (o : Outcome A) (r s : ℕ) → r ≡ number o → s ≡ number o → r ≡ s
+pub one-number : {A : Type 0} (o : Outcome A) (r s : ℕ) → ReturnsNumber o r → ReturnsNumber o s → r ≡ s
 one-number o r s p q = one-value r s p q
 
 -- two outcomes that hand the same over are one

@@ -11,6 +11,10 @@ use Rattle.outcome.specs.Outcome.{Outcome, number, value, pick}
 abbrev pub HandsOver : {A : Type 0} → Outcome A → ℕ → A → A → Type 0
 HandsOver o r old new = (r ≡ number o) × (new ≡ value old o)
 
+-- of a check that is lent nothing there is the number alone
+abbrev pub ReturnsNumber : {A : Type 0} → Outcome A → ℕ → Type 0
+ReturnsNumber o r = r ≡ number o
+
 -- yes and no are 1 and 0
 abbrev pub yesNo : Bool → ℕ
 yesNo b = pick b 1 0

@@ -8,7 +8,7 @@ import questions
 
 RANDOM = questions.RANDOM + parts.RANDOM
 CRATES = os.path.join(os.path.dirname(os.path.abspath(__file__)), "../crates")
-# Inner functions that answer every input all the same: they only take their refusal's number from their caller.
+# Inner functions that answer every input all the same: their caller only names their refusal.
 ASKED_TOO = ["number_text::read_decimal", "number_text::read_i32", "number_text::read_u32"]
 
 

@@ -4,7 +4,8 @@ use Prim.Native.Nat.{ℕ, _<_}
 use mathlib.Core.Path.{_≡_, refl, sym, _∙_, ap}
 use mathlib.Core.Bool.{Bool, true, false}
 use native.Mathlib.Omega.{arith}
-use Rattle.outcome.specs.Outcome.{Outcome, given, refused, number, value, returned, unless, andThen, passedAs, Given, Numbered, pick, both}
+use lib.Ieee.{binary64, odd, ofFields, ofBits}
+use Rattle.outcome.specs.Outcome.{Outcome, given, refused, number, value, returned, plusZero, unless, andThen, passedAs, Given, Numbered, pick, both}
 
 pub given-injective : {A : Type 0} {a b : A} → given a ≡ given b → a ≡ b
 given-injective e = cc
@@ -50,6 +51,11 @@ pub record Returns {A R : Type 0} (out : R → Outcome A) (zero : A) (pair : R �
 
 pub returns : {A R : Type 0} (out : R → Outcome A) (zero : A) → Returns out zero (λ r. returned zero (out r))
 returns out zero = record { refusal = λ r n e. ap (returned zero) e; one-pair = λ r s e. ap (returned zero) e }
+
+-- the zero of an f64 has the bits 0
+pub plus-zero : ofBits binary64 0 ≡ plusZero
+unfolding ofBits ofFields odd
+plus-zero = refl
 
 pub unless-numbered : {A : Type 0} (b : Bool) (n : ℕ) (o : Outcome A) → 0 < n → Numbered o → Numbered (unless b n o)
 unless-numbered true n o h k = k

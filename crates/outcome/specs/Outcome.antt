@@ -1,5 +1,5 @@
--- What every entry point answers: a value, or the number of a refusal; and what the paper returns of
--- it: the number, and the value or its zero.
+-- What every entry point answers: a value, or the number of a refusal; and what the paper returns
+-- of it: the number, and the value or its zero.
 use Prim.Native.Nat.{ℕ, _<_}
 use mathlib.Core.Bool.{Bool, true, false}
 use lib.IntN.{pos}

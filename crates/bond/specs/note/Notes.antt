@@ -32,7 +32,7 @@ abbrev pub noteOutcome : NoteAnswer → Outcome Note
 noteOutcome (note-answer.Note n) = given n
 noteOutcome (note-answer.Refused n) = refused n
 
--- its zero: every number 0, and of each list what document 01 packs as 0; and what is returned of it
+-- its zero: every number 0, and of each list what document 01 packs as 0
 abbrev pub noteZero : Note
 noteZero = record {
   number = record { count = 0; digits = 0 };
@@ -47,6 +47,7 @@ noteZero = record {
   currency = record { first = 0; second = 0; third = 0 };
 }
 
+-- what is returned of it
 abbrev pub noteReturned : NoteAnswer → ℕ × Note
 noteReturned r = returned noteZero (noteOutcome r)
 

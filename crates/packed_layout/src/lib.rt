@@ -73,6 +73,9 @@ pub const THIRD_LETTER: usize = 18;
 
 pub const SPARE: usize = 19;
 
+// The sum of the widths: 30 bytes.
+const NOTE_BITS: usize = 240;
+
 // The table of holidays behind the note: its count, and each day.
 pub const COUNT_WIDTH: usize = 16;
 
@@ -88,14 +91,7 @@ fn widths() -> [usize; FIELDS]
 pub fn note_bits() -> usize
     ensures { λ r. ⌜ r ≡ total noteWidths ⌝ }
 {
-    let widths = widths();
-    let mut bits: usize = 0;
-    let mut k: usize = 0;
-    while k < FIELDS {
-        bits += widths[k];
-        k += 1;
-    }
-    bits
+    NOTE_BITS
 }
 
 // Inner: how many bits a note and so many holidays take; asks for at most 4,096 holidays.

@@ -1,6 +1,6 @@
-/* The register and the original in one process, on the same inputs.
+/* The register and finql in one process, on the same inputs.
      drive check                  asks both sides every input and compares: bits, dates, texts. Exit status 1 where they differ.
-     drive time ROUNDS [NAME..]   `piece` or `growth`, NAME, nanoseconds a call of ours, of the Rust's, of the loop around them: the least of so many short rounds
+     drive time ROUNDS [NAME..]   `piece` or `growth`, NAME, nanoseconds a call of ours, of finql's, of the loop around them: the least of so many short rounds
      drive run TIMES [NAME..]     each loop once, so many times over its inputs, under callgrind, with a dump for each; prints NAME and the calls
    Inputs are made once, before anything is timed. */
 #include <stdint.h>
@@ -10,7 +10,7 @@
 #include <time.h>
 #include <valgrind/callgrind.h>
 
-/* The C face of the register (crates/exports). */
+/* The C face of the register (crates/c_face). */
 #define NOTE_ARGS \
     uint32_t, uint64_t, uint32_t, uint32_t, uint32_t, uint32_t, uint32_t, uint32_t, uint32_t, uint32_t, int32_t, uint32_t, uint32_t, uint32_t, \
         uint32_t, double, uint8_t, uint8_t, uint8_t
@@ -27,7 +27,7 @@ uint32_t notes_list_note(const uint8_t *, size_t, uint8_t *, size_t, size_t *);
 uint32_t notes_flows_after(uint32_t, const uint32_t *, size_t, const uint32_t *, size_t, const double *, size_t, uint32_t *, size_t, uint32_t *, size_t, double *, size_t, size_t *);
 uint32_t notes_discount_flows(double, uint32_t, uint8_t, uint8_t, uint8_t, const uint32_t *, size_t, const uint32_t *, size_t, const double *, size_t, uint32_t, uint32_t, uint32_t, double *);
 
-/* The original behind C names (compare/original/finql_c). */
+/* finql behind C names (compare/finql/finql_c). */
 typedef struct Period Period;
 typedef struct Calendar Calendar;
 typedef struct Bond Bond;
@@ -208,7 +208,7 @@ static void make_fractions(void) {
     for (int k = 0; k < ASKED; k++) {
         Date a = any_date(1900, 200), b = any_date(a.year, 1 + below(30));
         fractions[k].act = serial(a) <= serial(b) ? (Span){a, b} : (Span){b, a};
-        /* The original is wrong where the month goes back (docs/DIFFERENCES.md), and refuses two days of one month on a fraction of 0. */
+        /* finql is wrong where the month goes back (docs/DIFFERENCES.md), and refuses two days of one month on a fraction of 0. */
         do b = any_date(a.year, 30);
         while (b.month < a.month || (b.year == a.year && b.month == a.month));
         fractions[k].thirty = (Span){a, b};
@@ -307,7 +307,7 @@ static void make_growth(void) {
     tabled_notes[1] = note((Date){2000, 1, 15}, FLOWS - 1, 6, ICMA, grown_tables[2]);
 }
 
-/* ---- the pieces of work: a loop of ours, of the Rust's, and one that only reads the inputs */
+/* ---- the pieces of work: a loop of ours, of finql's, and one that only reads the inputs */
 
 static uint64_t bits(double x) {
     uint64_t b;
@@ -336,7 +336,7 @@ static void use_note(const Note *n) {
     use(bits(n->rate));
 }
 
-/* One call of ours gives a sum of all that it answers, so that nothing of it can be left out; so does one of the Rust's. */
+/* One call of ours gives a sum of all that it answers, so that nothing of it can be left out; so does one of finql's. */
 static uint64_t sum(uint32_t refused, Date t) { return refused + t.year + t.month + t.day; }
 
 static uint64_t our_fraction(uint32_t rule, const Span *s) {
@@ -429,7 +429,7 @@ static void read_rollout(const Note *n) {
     use(bits(n->position));
     use(n->table->count);
 }
-/* What a coupon under 30E/360 pays, months subtracted signed as document 01 has it, or without sign as the original does. */
+/* What a coupon under 30E/360 pays, months subtracted signed as document 01 has it, or without sign as finql does. */
 static double thirty_amount(const Note *n, Date a, Date b, int without_sign) {
     int32_t months = (int32_t)b.month - (int32_t)a.month, days = (int32_t)(b.day < 30 ? b.day : 30) - (int32_t)(a.day < 30 ? a.day : 30);
     double m = without_sign ? (double)(uint32_t)months : (double)months;
@@ -515,7 +515,7 @@ static int same_listing(uint32_t i) {
     return length <= TEXT && length == their_listing(i, their_text) && memcmp(out_text, their_text, length) == 0;
 }
 
-/* PIECE(name, how many inputs, one call of ours, one of the Rust's, the reading of the inputs, whether both sides agree), each at input k */
+/* PIECE(name, how many inputs, one call of ours, one of finql's, the reading of the inputs, whether both sides agree), each at input k */
 #define FRACTION(name, rule, span) \
     PIECE(name, ASKED, our_fraction(rule, &fractions[k].span), their_fraction(rule, &fractions[k].span), read_span(&fractions[k].span), ours == theirs)
 #define ADD(name, unit) \

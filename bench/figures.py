@@ -22,7 +22,7 @@ def instructions(folder):
 
 
 def per_call(folder, short, long):
-    """Name of a piece -> instructions a call of ours, of the Rust's, the loop's taken off."""
+    """Name of a piece -> instructions a call of ours, of finql's, the loop's taken off."""
     runs = [(instructions(f"{folder}/{n}"), dict(line.split() for line in open(f"{folder}/{n}/calls"))) for n in (short, long)]
     result = {}
     for name in runs[0][1]:
@@ -36,7 +36,7 @@ def main():
     times_path, folder, short, long = sys.argv[1:5]
     counts = per_call(folder, short, long)
     with open(folder + "/../table", "w", encoding="utf-8") as table:
-        table.write(f"{'NAME':28} {'ours ns':>10} {'Rust ns':>10} {'ratio':>7} {'ours insn':>11} {'Rust insn':>11} {'ratio':>7}\n")
+        table.write(f"{'NAME':28} {'ours ns':>10} {'finql ns':>10} {'ratio':>7} {'ours insn':>11} {'finql insn':>11} {'ratio':>7}\n")
         for line in open(times_path):
             kind, name, *rest = line.split()
             ours, rust, loop = (float(x) for x in rest)

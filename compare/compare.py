@@ -1,9 +1,10 @@
-"""Asks the register and the original the same questions: small sets whole, the rest at random with crowded edges.
+"""Asks the register and finql the same questions: small sets whole, the rest at random with crowded edges.
 
-    compare.py ANSWERS ORACLE COUNT SEED
+    compare.py REPLAY ORACLE COUNT SEED
 
-ANSWERS is the command of the Rattle program `answers`, ORACLE the original behind its line protocol. The last line printed is
-'COUNT queries, K explained, 0 unexplained', and the exit status is 0 only then, and only where every entry point of docs/CONTRACTS.md is asked.
+REPLAY is the command of the Rattle program `replay`, ORACLE finql behind its line protocol. The last line
+printed is 'COUNT queries, K explained, 0 unexplained', and the exit status is 0 only then, and only where every
+entry point is asked.
 """
 import itertools
 import multiprocessing
@@ -81,7 +82,7 @@ def block(task):
     else:
         ask = SETS[kind][1]
         made = [ask(k) for k in range(first, last, stride)]
-    return sides.compare(ANSWERS, ORACLE, made)
+    return sides.compare(REPLAY, ORACLE, made)
 
 
 def tasks(count, seed):
@@ -123,5 +124,5 @@ def main():
 
 
 if __name__ == "__main__":
-    ANSWERS, ORACLE = sys.argv[1].split(" "), sys.argv[2]
+    REPLAY, ORACLE = sys.argv[1].split(" "), sys.argv[2]
     sys.exit(main())

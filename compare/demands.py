@@ -1,10 +1,10 @@
-"""Questions for the demands of docs/REQUIREMENTS.md that ask for a run and that the original's own answers do not show. compare/run asks them each time, and the gate replays them."""
+"""Questions for the demands of docs/REQUIREMENTS.md that ask for a run and that finql's own answers do not show. compare/run asks them each time, and the gate replays them."""
 import packing
 import paper
 import questions
 from differences import FIRST, NOTE, UNSORTED, accrued, adjust, fraction, one_day, rollout, rounded, simple, step
 from paper import LAST, Table
-from questions import D, KEPT, L, Question, W, line, rust_date
+from questions import D, KEPT, L, Question, W, line, finql_date
 
 LEAST = questions.LEAST
 LAST_DATE = (9999, 12, 31)
@@ -24,9 +24,9 @@ def after(t, flows, places):
         return answer
 
     fields = D(t) + W(places) + L(flows)
-    text = line("after", rust_date(t), questions.flow_words(flows)) if all(paper.is_currency(f[1]) for f in flows) else None
+    text = line("after", finql_date(t), questions.flow_words(flows)) if all(paper.is_currency(f[1]) for f in flows) else None
     return [
-        Question("flows_after_listed", 47, fields, text, ask(questions.listed_flow), flows, KEPT),
+        Question("flows_after_plain", 47, fields, text, ask(questions.plain_flow), flows, KEPT),
         Question("get_cash_flows_after", 58, fields, text, ask(questions.record_flow), flows, KEPT),
     ]
 

@@ -5,7 +5,7 @@ import packing
 import paper
 import questions
 from paper import ADJUST, RULES, Table
-from questions import D, F, KEPT, L, N, P, T, W, Question, X, bits, day_text, line, rust_date, rust_note, rust_table
+from questions import D, F, KEPT, L, N, P, T, W, Question, X, bits, day_text, line, finql_date, finql_note, finql_table
 
 LEAST = questions.LEAST
 NOTE = {
@@ -19,14 +19,14 @@ def step(word, p, t, table=None):
     negate = word == "sub"
     name = {"add": "add_to", "sub": "sub_from"}[word] + ("" if table is None else "_with")
     verb = {"add_to": 27, "sub_from": 28, "add_to_with": 29, "sub_from_with": 30}[name]
-    text = line(word, rust_date(t), "%d%s" % p, "-" if table is None else rust_table(table))
+    text = line(word, finql_date(t), "%d%s" % p, "-" if table is None else finql_table(table))
     return Question(name, verb, P(p) + D(t) + (b"" if table is None else T(table)), text, lambda: day_text(paper.add_to(p, t, table, negate)), (p, t))
 
 
 def adjust(rule, t, days):
     table = Table(days)
     fields = bytes((ADJUST.index(rule),)) + D(t) + T(table)
-    return Question("adjust_date", 22, fields, line("adjust", rule, rust_date(t), rust_table(table)), lambda: day_text(paper.adjust(rule, t, table)), t)
+    return Question("adjust_date", 22, fields, line("adjust", rule, finql_date(t), finql_table(table)), lambda: day_text(paper.adjust(rule, t, table)), t)
 
 
 def fraction(rule, start, end, roll=None, p=None):
@@ -44,25 +44,25 @@ def rollout(note, position=1.0, days=(), places=2000):
         flows = paper.rollout(note, position, table, places, wrap)
         return " ".join([str(len(flows))] + ["%d:%s" % (paper.serial(f[0]), bits(f[2])) for f in flows])
 
-    text = line("rollout", rust_note(note), bits(position), rust_table(table))
+    text = line("rollout", finql_note(note), bits(position), finql_table(table))
     return Question("rollout_flows", 50, N(note) + F(position) + W(places) + T(table), text, ask, (ask, note["issue"], note, table), KEPT)
 
 
 def accrued(note, today):
     ask = lambda wrap=False: bits(paper.accrued(note, today, wrap))
-    return Question("accrued_interest", 51, N(note) + D(today), line("accrued", rust_note(note), rust_date(today)), ask, (ask, note["issue"], note, None))
+    return Question("accrued_interest", 51, N(note) + D(today), line("accrued", finql_note(note), finql_date(today)), ask, (ask, note["issue"], note, None))
 
 
 def simple(rate, rule, today, flow):
     ask = lambda wrap=False: bits(paper.discount_cash_flow(rate, rule, b"EUR", today, flow, wrap))
-    text = line("simple1", bits(rate), rule, "EUR", rust_date(today), questions.flow_words([flow]))
+    text = line("simple1", bits(rate), rule, "EUR", finql_date(today), questions.flow_words([flow]))
     return Question("discount_cash_flow", 45, F(rate) + bytes((RULES.index(rule),)) + b"EUR" + D(today) + X(flow), text, ask, (ask, today, None, None))
 
 
 def stream(currency, flows):
     rate, today = 0.5, (2021, 1, 1)
     ask = lambda wrap=False: bits(paper.discount_stream(rate, "act365", currency, today, flows, wrap))
-    text = line("simple", bits(rate), "act365", questions.rust_currency(currency), rust_date(today), questions.flow_words(flows))
+    text = line("simple", bits(rate), "act365", questions.finql_currency(currency), finql_date(today), questions.flow_words(flows))
     fields = F(rate) + bytes((RULES.index("act365"),)) + currency + D(today) + L(flows)
     return Question("discount_cash_flow_stream", 57, fields, text, ask, (ask, today, None, None))
 
@@ -99,9 +99,9 @@ ALL = [
     rollout(NOTE), listed(packing.pack(NOTE, [])),
     accrued(dict(NOTE, maturity=(2030, 1, 15)), (2021, 7, 16)),
     simple(0.5, "30360", (2020, 12, 31), ((2021, 1, 1), b"EUR", 1.0)), simple(0.5, "30e360", (2020, 12, 31), ((2021, 1, 1), b"EUR", 1.0)),
-    # this register answers, the Rust refuses
+    # this register answers, finql refuses
     stream(b"eu1", []),
-    # the Rust answers, this register refuses
+    # finql answers, this register refuses
     *[step("sub", (1, u), FIRST) for u in "DMY"], step("sub", (1, "B"), FIRST, Table([])),
     adjust("preceding", FIRST, [1]), adjust("modified", (1, 1, 6), list(range(1, 32))),
     step("add", (LEAST, "B"), (2021, 1, 1), Table([])), step("sub", (LEAST, "B"), (2021, 1, 1), Table([])),
@@ -122,7 +122,7 @@ ALL = [
     *[rollout(NOTE, days=days) for days in UNSORTED],
     rollout(dict(NOTE, issue=FIRST, maturity=(1, 12, 31), coupon=(31, 12), period=(1, "Y"), rule="icma")),
     listed(spare_bit(packing.pack(NOTE, []))),
-    # the Rust panics, wraps or never ends, this register refuses
+    # finql panics, wraps or never ends, this register refuses
     step("add", (1, "D"), (9999, 12, 31)), step("add", (1, "W"), (9999, 12, 25)), step("add", (0, "B"), (2021, 1, 1)), step("sub", (0, "B"), (2021, 1, 1)),
     step("sub", (LEAST, "D"), (2021, 1, 1)), coupon(b"15"), step("add", (LEAST, "D"), (2021, 1, 1)),
     *[rollout(dict(NOTE, period=p)) for p in ((0, "M"), (0, "D"), (0, "W"), (0, "Y"), (-1, "D"), (1, "B"))],

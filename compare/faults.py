@@ -2,7 +2,7 @@
 
     faults.py ROOT WORK [NAME..]
 
-Each wrong edit of faults.txt is put into a copy of ROOT's crates in WORK, and `rt try` runs the program `answers` of that copy, unproved, on questions to
+Each wrong edit of faults.txt is put into a copy of ROOT's crates in WORK, and `rt try` runs the program `replay` of that copy, unproved, on questions to
 that entry point. What document 01 answers is its `stdout`; a fault is found where the compiled program writes another answer (or ends by itself
 before the last). The interpreter's verdict is left aside: it stops after a number of steps, fault or none.
 """
@@ -54,11 +54,11 @@ def found(root, work, name, path, old, new):
         raise SystemExit("%s: the old text stands %d times in %s" % (name, text.count(old), path))
     open(file, "w").write(text.replace(old, new))
     made = questions_to(name)
-    with open(os.path.join(work, "crates/answers/stdin"), "wb") as f:
+    with open(os.path.join(work, "crates/replay/stdin"), "wb") as f:
         f.write(b"".join(q.record for q in made))
-    with open(os.path.join(work, "crates/answers/stdout"), "w") as f:
+    with open(os.path.join(work, "crates/replay/stdout"), "w") as f:
         f.write("".join(q.expected + "\n" for q in made))
-    said = subprocess.run(["rt", "try", "answers"], cwd=work, capture_output=True, text=True).stdout
+    said = subprocess.run(["rt", "try", "replay"], cwd=work, capture_output=True, text=True).stdout
     verdict = [line for line in said.split("\n") if COMPILED in line]
     if len(verdict) != 1 or "status 124" in verdict[0]:
         raise SystemExit("%s: the program did not run to an end\n%s" % (name, said))

@@ -1,7 +1,7 @@
 """Document 01, read once more and written down apart from the Rattle code: what each question is answered.
 
 Every function returns the answer or raises Refused. Dates are (year, month, day); a period is (number, unit); a table is a
-Table. The f64 operations are the Rust's in its order. WRAP=True subtracts months as u32, as the Rust does: only to
+Table. The f64 operations are finql's in its order. WRAP=True subtracts months as u32, as finql does: only to
 tell that difference from others.
 """
 import math

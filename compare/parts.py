@@ -52,7 +52,7 @@ def q_read_decimal(m):
 
 def q_decimal_length_of_number(m):
     n = crowded(m, 64)
-    return Question("text_lengths::decimal_length", 61, Q(n), None, lambda: str(len(str(n))))
+    return Question("number_text::decimal_length", 61, Q(n), None, lambda: str(len(str(n))))
 
 
 def q_padded_length(m):
@@ -65,7 +65,7 @@ def q_magnitude(m):
     return Question("magnitude", 63, W(n), None, lambda: str(abs(n)))
 
 
-# The Rust writes a period's number as it writes any i32.
+# finql writes a period's number as it writes any i32.
 
 
 def q_signed_length(m):
@@ -113,9 +113,9 @@ def q_decimal_length_of_float(m):
     return Question("decimal::decimal_length", 70, F(x), line("showfix", bits(x)), lambda: str(len(paper.show_decimal(x))), x)
 
 
-def q_code_of(m):
+def q_code_of_convention(m):
     k = m.r.randint(0, 5)
-    return Question("code_of", 71, bytes((k,)), None, lambda: str(k))
+    return Question("code_of_convention", 71, bytes((k,)), None, lambda: str(k))
 
 
 def q_is_currency(m):
@@ -124,7 +124,7 @@ def q_is_currency(m):
 
 
 def q_is_same_currency(m):
-    """The Rust compares two flows: with one date and one amount only their currencies are left."""
+    """finql compares two flows: with one date and one amount only their currencies are left."""
     a = m.currency()
     b = bytearray(a)
     for _ in range(m.pick(0, 0, 1, 1, 2)):
@@ -146,9 +146,9 @@ def q_is_up_to_billion(m):
     return Question("is_up_to_billion", 74, F(x), None, lambda: yes(-1e9 <= x <= 1e9))
 
 
-def q_date_on(m):
+def q_date_or_none(m):
     n = m.serial()
-    return Question("date_on", 75, W(n), "showdate #%d" % n if paper.is_day(n) else None, lambda: day_text(paper.dated(n) if paper.is_day(n) else (0, 0, 0)))
+    return Question("date_or_none", 75, W(n), "showdate #%d" % n if paper.is_day(n) else None, lambda: day_text(paper.dated(n) if paper.is_day(n) else (0, 0, 0)))
 
 
 def q_is_note_number(m):
@@ -157,9 +157,9 @@ def q_is_note_number(m):
     return Question("is_note_number", 76, W(count) + Q(digits), None, lambda: yes(1 <= count <= 10 and len(str(digits)) <= count))
 
 
-def q_is_rate(m):
+def q_is_coupon_rate(m):
     x = edged(m, 100.0, 100.0, 0.0)
-    return Question("is_rate", 77, F(x), None, lambda: yes(0.0 <= x <= 100.0 and not bits(x)[0] in "89abcdef"))
+    return Question("is_coupon_rate", 77, F(x), None, lambda: yes(0.0 <= x <= 100.0 and not bits(x)[0] in "89abcdef"))
 
 
 def q_is_position(m):
@@ -172,7 +172,7 @@ def q_check_note_with(m):
     return Question("check_note_with", 79, N(n) + bytes((position, table)), None, lambda: paper.check_note(n, position, table) or "")
 
 
-# Of amounts the Rust is asked by a rollout of one coupon: Act/365 from the issue to 15 July, and the nominal behind it.
+# Of amounts finql is asked by a rollout of one coupon: Act/365 from the issue to 15 July, and the nominal behind it.
 
 
 def one_coupon(m):
@@ -186,10 +186,10 @@ def one_coupon(m):
 
 
 def asked_amount(n, position, answer):
-    """A NaN has no bits of its own, so none is asked of the Rust."""
+    """A NaN has no bits of its own, so none is asked of finql."""
     if answer != answer or not math.isfinite(n["rate"]):
         return None
-    return line("rollout", questions.rust_note(n), bits(position), "none")
+    return line("rollout", questions.finql_note(n), bits(position), "none")
 
 
 def told_bits(x):
@@ -228,7 +228,7 @@ def q_amount_length(m):
 
 RANDOM = [
     (1, q_read_decimal), (1, q_decimal_length_of_number), (1, q_padded_length), (1, q_magnitude), (1, q_signed_length), (1, q_write_u32), (1, q_write_i32),
-    (1, q_write_padded), (1, q_put_scaled), (1, q_leading_zeros), (2, q_decimal_length_of_float), (1, q_code_of), (1, q_is_currency), (1, q_is_same_currency),
-    (1, q_is_up_to_billion), (1, q_date_on), (1, q_is_note_number), (1, q_is_rate), (1, q_is_position), (2, q_check_note_with), (2, q_interest), (1, q_nominal),
+    (1, q_write_padded), (1, q_put_scaled), (1, q_leading_zeros), (2, q_decimal_length_of_float), (1, q_code_of_convention), (1, q_is_currency), (1, q_is_same_currency),
+    (1, q_is_up_to_billion), (1, q_date_or_none), (1, q_is_note_number), (1, q_is_coupon_rate), (1, q_is_position), (2, q_check_note_with), (2, q_interest), (1, q_nominal),
     (2, q_coupon_amount), (2, q_amount_length),
 ]

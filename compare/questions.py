@@ -1,4 +1,4 @@
-"""Questions for both sides. A question is a Question: the record for `answers`, the line for the Rust (None: it has no such
+"""Questions for both sides. A question is a Question: the record for `replay`, the line for finql (None: it has no such
 entry point, or cannot be asked this), what document 01 answers, and what the rules of difference look at.
 """
 import math
@@ -32,7 +32,7 @@ def said(answer):
     return "ok " + text if text else "ok"
 
 
-# ---- how a value is written in an answer and on a line of the Rust's
+# ---- how a value is written in an answer and on a line of finql's
 
 
 def bits(x):
@@ -43,17 +43,17 @@ def day_text(t):
     return "%d-%d-%d" % t
 
 
-def rust_date(t):
+def finql_date(t):
     return "%d-%d-%d" % t if 1 <= t[1] <= 12 and 1 <= t[2] <= paper.month_length(t[0], t[1]) and t[0] <= 9999 else None
 
 
-def rust_table(table):
+def finql_table(table):
     if any(n > LAST for n in table.days):
         return None
     return ",".join("#%d" % n for n in table.days) or "none"
 
 
-def rust_currency(c):
+def finql_currency(c):
     return c.decode("ascii") if all(33 <= x <= 126 and x not in b":,|" for x in c) else None
 
 
@@ -99,18 +99,18 @@ def N(n):
     )
 
 
-def rust_note(n):
+def finql_note(n):
     if not math.isfinite(n["rate"]):
         return None
     words = (
-        rust_date(n["issue"]), rust_date(n["maturity"]), "%d.%d" % n["coupon"], "%d%s" % n["period"], n["rule"], n["adjust"], str(n["denomination"]),
-        bits(n["rate"]), rust_currency(n["currency"]),
+        finql_date(n["issue"]), finql_date(n["maturity"]), "%d.%d" % n["coupon"], "%d%s" % n["period"], n["rule"], n["adjust"], str(n["denomination"]),
+        bits(n["rate"]), finql_currency(n["currency"]),
     )
     return line(*words)
 
 
 def flow_words(flows):
-    words = [line(rust_date(t), rust_currency(c)) for t, c, x in flows]
+    words = [line(finql_date(t), finql_currency(c)) for t, c, x in flows]
     if None in words:
         return None
     return ",".join("%s:%s:%s" % (*w.split(" "), bits(f[2])) for w, f in zip(words, flows)) or "none"
@@ -340,7 +340,7 @@ def q_day_of(m, t=None):
         paper.judge_date(t)
         return str(paper.serial(t))
 
-    return Question("day_of", 8, D(t), line("serial", rust_date(t)), answer, t)
+    return Question("day_of", 8, D(t), line("serial", finql_date(t)), answer, t)
 
 
 def q_date_of(m, n=None):
@@ -376,19 +376,19 @@ def moved(move, t):
 
 def q_add_months(m, t=None, n=None):
     t, n = t or m.date(), m.number() if n is None else n
-    return Question("add_months", 13, D(t) + W(n), line("add", rust_date(t), "%dM" % n, "-"), moved(lambda: paper.add_months(t, n), t), ((n, "M"), t))
+    return Question("add_months", 13, D(t) + W(n), line("add", finql_date(t), "%dM" % n, "-"), moved(lambda: paper.add_months(t, n), t), ((n, "M"), t))
 
 
 def q_add_years(m):
     t, n = m.date(), m.number()
-    return Question("add_years", 14, D(t) + W(n), line("add", rust_date(t), "%dY" % n, "-"), moved(lambda: paper.add_years(t, n), t), ((n, "Y"), t))
+    return Question("add_years", 14, D(t) + W(n), line("add", finql_date(t), "%dY" % n, "-"), moved(lambda: paper.add_years(t, n), t), ((n, "Y"), t))
 
 
 def q_add_days(m):
     t, n = m.date(), m.number() if m.chance(0.9) else m.pick(-(2**63), 2**63 - 1, 2**32, -(2**32))
     asked = LEAST <= n < 2**31
     return Question(
-        "add_days", 15, D(t) + struct.pack(">q", n), line("add", rust_date(t), "%dD" % n, "-") if asked else None, moved(lambda: paper.add_days(t, n), t), ((n, "D"), t)
+        "add_days", 15, D(t) + struct.pack(">q", n), line("add", finql_date(t), "%dD" % n, "-") if asked else None, moved(lambda: paper.add_days(t, n), t), ((n, "D"), t)
     )
 
 
@@ -417,7 +417,7 @@ def business(name, verb, way, counted):
             return str(table.walk(n, k, way))
 
         asked = paper.is_day(n) and k < 2**31
-        text = line("add", "#%d" % n, "%d%s" % (way * k, "B"), rust_table(table)) if asked else None
+        text = line("add", "#%d" % n, "%d%s" % (way * k, "B"), finql_table(table)) if asked else None
         return Question(name, verb, W(n) + (W(k) if counted else b"") + T(table), text, answer, ((way * k, "B"), n))
 
     return make
@@ -426,7 +426,7 @@ def business(name, verb, way, counted):
 def q_adjust_date(m):
     rule, t, table = m.r.choice(ADJUST), m.date(), m.table()
     fields = bytes((ADJUST.index(rule),)) + D(t) + T(table)
-    return Question("adjust_date", 22, fields, line("adjust", rule, rust_date(t), rust_table(table)), lambda: day_text(paper.adjust(rule, t, table)), t)
+    return Question("adjust_date", 22, fields, line("adjust", rule, finql_date(t), finql_table(table)), lambda: day_text(paper.adjust(rule, t, table)), t)
 
 
 def damaged(m, s):
@@ -445,7 +445,7 @@ def damaged(m, s):
     return bytes(s)
 
 
-def rust_text(verb, s):
+def finql_text(verb, s):
     try:
         s.decode("utf-8")
     except UnicodeDecodeError:
@@ -461,7 +461,7 @@ def q_read_period(m, s=None):
         n, unit = paper.read_period(s)
         return "%d %d" % (n, UNITS.index(unit))
 
-    return Question("read_period", 23, s, rust_text("period", s), answer)
+    return Question("read_period", 23, s, finql_text("period", s), answer)
 
 
 def room(m, size):
@@ -482,7 +482,7 @@ def q_write_period(m):
     p = m.period()
     text = b"%d%s" % (p[0], p[1].encode())
     places = max(0, room(m, len(text)))
-    return Question("write_period", 24, P(p) + W(places), rust_text("period", text) if places >= len(text) else None, written(lambda: text, places), None, KEPT)
+    return Question("write_period", 24, P(p) + W(places), finql_text("period", text) if places >= len(text) else None, written(lambda: text, places), None, KEPT)
 
 
 def q_frequency(m):
@@ -504,7 +504,7 @@ def stepped(name, verb, word, given, negate):
     def make(m):
         p, t = m.period(), m.date()
         table = m.table() if given else None
-        text = line(word, rust_date(t), "%d%s" % p, rust_table(table) if given else "-")
+        text = line(word, finql_date(t), "%d%s" % p, finql_table(table) if given else "-")
         fields = P(p) + D(t) + (T(table) if given else b"")
         return Question(name, verb, fields, text, lambda: day_text(paper.add_to(p, t, table, negate)), (p, t))
 
@@ -515,7 +515,7 @@ def q_read_coupon_date(m, s=None):
     if s is None:
         day, month = m.pick(0, 1, 15, 28, 29, 31, 257, 288, m.r.randint(1, 31), 2**32), m.pick(0, 1, 2, 2, 4, 12, 13, m.r.randint(1, 12))
         s = damaged(m, m.pick(b"", b" ", b"\t", b"+", "\u00a0".encode(), "\u3000".encode()) + b"%d.%d" % (day, month) + m.pick(b"", b" ", b".", b".zz"))
-    return Question("read_coupon_date", 31, s, rust_text("coupon", s), lambda: "%d %d" % paper.read_coupon_date(s), s)
+    return Question("read_coupon_date", 31, s, finql_text("coupon", s), lambda: "%d %d" % paper.read_coupon_date(s), s)
 
 
 def q_new_coupon_date(m):
@@ -530,14 +530,14 @@ def q_write_coupon_date(m):
     return Question("write_coupon_date", 33, W(day) + W(month) + W(places), None, written(lambda: text, places), None, KEPT)
 
 
-def q_convention_of(m):
+def q_convention_of_code(m):
     n = m.pick(0, 1, 2, 3, 4, 5, 6, 7, 2**32 - 1)
-    return Question("convention_of", 34, W(n), None, lambda: str(n) if n < 6 else paper.refuse(18))
+    return Question("convention_of_code", 34, W(n), None, lambda: str(n) if n < 6 else paper.refuse(18))
 
 
 def fraction_question(m, rule, start, end, roll, p):
     fields = bytes((RULES.index(rule),)) + D(start) + D(end) + bytes((roll is not None,)) + D(roll or (0, 0, 0)) + bytes((p is not None,)) + P(p or (0, "D"))
-    text = line("yf", rule, rust_date(start), rust_date(end), rust_date(roll) if roll else "-", "%d%s" % p if p else "-")
+    text = line("yf", rule, finql_date(start), finql_date(end), finql_date(roll) if roll else "-", "%d%s" % p if p else "-")
     ask = lambda wrap=False: bits(paper.year_fraction(rule, start, end, roll, p, wrap))
     return Question("year_fraction", 35, fields, text, ask, (ask, start, roll, p))
 
@@ -582,7 +582,7 @@ def q_fuzzy(m):
 def q_write_date(m):
     t = m.date()
     places = max(0, room(m, 10))
-    return Question("write_date", 39, D(t) + W(places), line("showdate", rust_date(t)) if places >= 10 else None, written(lambda: paper.show_date(t), places), t, KEPT)
+    return Question("write_date", 39, D(t) + W(places), line("showdate", finql_date(t)) if places >= 10 else None, written(lambda: paper.show_date(t), places), t, KEPT)
 
 
 def text_of(show):
@@ -632,14 +632,14 @@ def q_discount_factor(m):
     t = m.near(today)
     text = flow_words([(t, b"EUR", 1.0)])
     ask = lambda wrap=False: bits(paper.discount_factor(rate, rule, today, t, wrap))
-    return Question("discount_factor", 44, F(rate) + bytes((RULES.index(rule),)) + b"EUR" + D(today) + D(t), line("simple1", bits(rate), rule, "EUR", rust_date(today), text), ask, (ask, today, None, None))
+    return Question("discount_factor", 44, F(rate) + bytes((RULES.index(rule),)) + b"EUR" + D(today) + D(t), line("simple1", bits(rate), rule, "EUR", finql_date(today), text), ask, (ask, today, None, None))
 
 
 def q_discount_cash_flow(m):
     rate, rule, today, c = m.simple_rate(), m.pick(*RULES[:5], m.r.choice(RULES)), m.date(), m.currency()
     flow = (m.near(today), c if m.chance(0.9) else m.currency(), m.plain())
     ask = lambda wrap=False: bits(paper.discount_cash_flow(rate, rule, c, today, flow, wrap))
-    text = line("simple1", bits(rate), rule, rust_currency(c), rust_date(today), flow_words([flow]))
+    text = line("simple1", bits(rate), rule, finql_currency(c), finql_date(today), flow_words([flow]))
     return Question("discount_cash_flow", 45, F(rate) + bytes((RULES.index(rule),)) + c + D(today) + X(flow), text, ask, (ask, today, None, None))
 
 
@@ -649,7 +649,7 @@ def stream(name, verb):
         c = b"EUR" if m.chance(0.97) else m.currency()
         flows = [(m.near(today), c if m.chance(0.97) else m.currency(), m.plain() if m.chance(0.1) else m.r.uniform(-1e4, 1e4)) for _ in range(m.r.randint(0, 8))]
         ask = lambda wrap=False: bits(paper.discount_stream(rate, rule, c, today, flows, wrap))
-        text = line("simple", bits(rate), rule, rust_currency(c), rust_date(today), flow_words(flows))
+        text = line("simple", bits(rate), rule, finql_currency(c), finql_date(today), flow_words(flows))
         return Question(name, verb, F(rate) + bytes((RULES.index(rule),)) + c + D(today) + L(flows), text, ask, (ask, today, None, None))
 
     return make
@@ -666,7 +666,7 @@ def after(name, verb, written_flow):
             later = paper.flows_after(t, flows, places)
             return " ".join([str(len(later))] + [written_flow(f) for f in later])
 
-        text = line("after", rust_date(t), flow_words(flows))
+        text = line("after", finql_date(t), flow_words(flows))
         held = all(paper.is_currency(f[1]) for f in flows)
         return Question(name, verb, D(t) + W(places) + L(flows), text if held else None, answer, flows, KEPT)
 
@@ -712,7 +712,7 @@ def rolled(name, verb, written_flow, most):
             flows = paper.rollout(n, position, table, places, wrap)
             return " ".join([str(len(flows))] + [written_flow(f) for f in flows])
 
-        text = line("rollout", rust_note(n), bits(position), rust_table(table))
+        text = line("rollout", finql_note(n), bits(position), finql_table(table))
         return Question(name, verb, N(n) + F(position) + W(places) + T(table), text, ask, (ask, n["issue"], n, table), KEPT)
 
     return make
@@ -722,7 +722,7 @@ def q_accrued_interest(m):
     n = m.rollable()
     today = m.near(n["issue"])
     ask = lambda wrap=False: bits(paper.accrued(n, today, wrap))
-    return Question("accrued_interest", 51, N(n) + D(today), line("accrued", rust_note(n), rust_date(today)), ask, (ask, n["issue"], n, None))
+    return Question("accrued_interest", 51, N(n) + D(today), line("accrued", finql_note(n), finql_date(today)), ask, (ask, n["issue"], n, None))
 
 
 def packable(m):
@@ -782,7 +782,7 @@ def q_list_note(m):
     if not text.startswith(b"refused") and places >= len(text):
         n, days = packing.unpack(s)
         table = Table(days)
-        asked = line("listing", rust_note(n), bits(1.0), rust_table(table))
+        asked = line("listing", finql_note(n), bits(1.0), finql_table(table))
         about = (lambda wrap=False: wrapped_listing(n, table, wrap), n["issue"], n, table)
     return Question("list_note", 54, W(places) + s, asked, written(lambda: text, places), about, KEPT)
 
@@ -810,10 +810,10 @@ def q_read_i32(m):
         n = paper.decimal_text(s, LEAST, 2**31 - 1)
         return paper.refuse(4) if n is None else str(n)
 
-    return Question("read_i32", 56, s, rust_text("period", s + b"D") if s else None, answer)
+    return Question("read_i32", 56, s, finql_text("period", s + b"D") if s else None, answer)
 
 
-def listed_flow(f):
+def plain_flow(f):
     return "%d:%d:%s" % (paper.serial(f[0]), int.from_bytes(f[1], "big"), bits(f[2]))
 
 
@@ -827,9 +827,9 @@ RANDOM = [
     (2, business("next_bday", 18, 1, False)), (2, business("prev_bday", 19, -1, False)), (1, business("bdays_later", 20, 1, True)), (1, business("bdays_earlier", 21, -1, True)),
     (4, q_adjust_date), (6, q_read_period), (2, q_write_period), (2, q_frequency), (1, q_inverse), (5, stepped("add_to", 27, "add", False, False)),
     (5, stepped("sub_from", 28, "sub", False, True)), (3, stepped("add_to_with", 29, "add", True, False)), (3, stepped("sub_from_with", 30, "sub", True, True)),
-    (6, q_read_coupon_date), (2, q_new_coupon_date), (1, q_write_coupon_date), (1, q_convention_of), (12, q_year_fraction), (5, q_round2digits), (1, q_aggregatable),
+    (6, q_read_coupon_date), (2, q_new_coupon_date), (1, q_write_coupon_date), (1, q_convention_of_code), (12, q_year_fraction), (5, q_round2digits), (1, q_aggregatable),
     (4, q_fuzzy), (2, q_write_date), (2, q_write_amount), (3, q_write_cash_flow), (1, q_cash_flow_length), (4, q_write_decimal), (3, q_discount_factor), (4, q_discount_cash_flow),
-    (2, stream("discount_listed_flows", 46)), (2, after("flows_after_listed", 47, listed_flow)), (1, q_check_note), (1, q_first_coupon_end),
+    (2, stream("discount_plain_flows", 46)), (2, after("flows_after_plain", 47, plain_flow)), (1, q_check_note), (1, q_first_coupon_end),
     (3, rolled("rollout_flows", 50, lambda f: "%d:%s" % (paper.serial(f[0]), bits(f[2])), 2000)), (5, q_accrued_interest), (1, q_read_note), (1, q_write_note), (1, q_list_note),
     (1, q_read_u32), (2, q_read_i32), (2, stream("discount_cash_flow_stream", 57)), (2, after("get_cash_flows_after", 58, record_flow)),
     (3, rolled("rollout_cash_flows", 59, record_flow, 300)),

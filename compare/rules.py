@@ -1,4 +1,4 @@
-"""What the Rust said, in our words; and why it may differ from document 01. A difference is explained by a rule or not at all.
+"""What finql said, in our words; and why it may differ from document 01. A difference is explained by a rule or not at all.
 
 Each rule is known by what it looks at, never by a case: docs/DIFFERENCES.md has the smallest input of each.
 """
@@ -13,7 +13,7 @@ NUMBERS = {
 }
 COUPON = ("read_coupon_date", "new_coupon_date")
 NOTES = ("rollout_flows", "rollout_cash_flows", "accrued_interest", "list_note")
-SIMPLE = ("discount_factor", "discount_cash_flow", "discount_listed_flows", "discount_cash_flow_stream")
+SIMPLE = ("discount_factor", "discount_cash_flow", "discount_plain_flows", "discount_cash_flow_stream")
 
 
 def refusal(name, text):
@@ -34,7 +34,7 @@ def flow_list(name, text):
         day, currency = paper.serial(t), c.encode()
         if name == "rollout_flows":
             out.append("%d:%s" % (day, x))
-        elif name == "flows_after_listed":
+        elif name == "flows_after_plain":
             out.append("%d:%d:%s" % (day, int.from_bytes(currency, "big"), x))
         else:
             out.append("%d-%d-%d:%s:%s" % (*t, currency.hex(), x))
@@ -46,17 +46,17 @@ def date_word(text):
     return "%d-%d-%d" % (int(year), int(month), int(day))
 
 
-DATES = ("date_of", "date_on", "add_months", "add_years", "add_days", "adjust_date", "add_to", "sub_from", "add_to_with", "sub_from_with")
+DATES = ("date_of", "date_or_none", "add_months", "add_years", "add_days", "adjust_date", "add_to", "sub_from", "add_to_with", "sub_from_with")
 DAYS = ("next_bday", "prev_bday", "bdays_later", "bdays_earlier")
 TEXTS = ("write_date", "write_cash_flow", "write_decimal", "write_amount", "write_period", "list_note")
 NUMBERS_OF_PERIODS = ("signed_length", "write_u32", "write_i32")
 LENGTHS = ("signed_length", "decimal::decimal_length", "amount_length")
 AMOUNTS = {"interest": 2, "coupon_amount": 2, "nominal": 3}
-LISTS = ("rollout_flows", "rollout_cash_flows", "flows_after_listed", "get_cash_flows_after")
+LISTS = ("rollout_flows", "rollout_cash_flows", "flows_after_plain", "get_cash_flows_after")
 
 
 def in_our_words(name, text):
-    """The Rust's answer as `answers` would write it; `panic` and `hang` stay; None: it was not asked."""
+    """finql's answer as `replay` would write it; `panic` and `hang` stay; None: it was not asked."""
     if text in ("panic", "hang", "died"):
         return "panic" if text == "died" else text
     if text.startswith("bad "):
@@ -95,9 +95,9 @@ def in_our_words(name, text):
     return text if text.startswith("ok ") else "ok " + text
 
 
-def into_year_0(q, rust):
-    """A step or a walk that leaves year 1 downwards, which the Rust follows to year -9999."""
-    if rust == "ok before year 1" or re.match(r"ok (-\d+|0)-\d+-\d+$", rust):
+def into_year_0(q, finql):
+    """A step or a walk that leaves year 1 downwards, which finql follows to year -9999."""
+    if finql == "ok before year 1" or re.match(r"ok (-\d+|0)-\d+-\d+$", finql):
         return True
     if q.name == "year_fraction":
         start, roll = q.about[1], q.about[2]
@@ -106,39 +106,39 @@ def into_year_0(q, rust):
 
 
 def not_held(line):
-    """A currency of the question that the Rust cannot hold: it refuses it before it is asked anything."""
+    """A currency of the question that finql cannot hold: it refuses it before it is asked anything."""
     words = line.split(" ")
     held = [words[3]] + [f.split(":")[1] for f in words[5].split(",") if ":" in f]
     return not all(re.fullmatch("[A-Za-z]{3}", c) for c in held)
 
 
-def explain(q, rust):
-    """The rule by which the Rust's answer may differ from document 01's, or None."""
+def explain(q, finql):
+    """The rule by which finql's answer may differ from document 01's, or None."""
     name, expected = q.name, q.expected.replace(" kept", "")
     given = expected.startswith("ok")
-    if name in ("discount_listed_flows", "discount_cash_flow_stream") and rust == "refused 17" and not_held(q.line):
-        return "currency: the Rust cannot hold it"
+    if name in ("discount_plain_flows", "discount_cash_flow_stream") and finql == "refused 17" and not_held(q.line):
+        return "currency: finql cannot hold it"
     number = 0 if given else int(expected.split(" ")[1])
     if given:
-        if name in NOTES + SIMPLE + ("year_fraction",) and rust.startswith("ok"):
+        if name in NOTES + SIMPLE + ("year_fraction",) and finql.startswith("ok"):
             wrapped = "ok " + q.about[0](True) + (" kept" if q.expected.endswith(" kept") else "")
-            return "months subtracted as u32" if rust == wrapped else None
+            return "months subtracted as u32" if finql == wrapped else None
         return None
     if number == 1 and re.search(r"[ ,]0-\d", q.line):
         return "a date of year 0"
     if number == 16:
-        return "room: the Rust's vector grows"
+        return "room: finql's vector grows"
     if number == 13:
-        return "table: the Rust takes any days"
+        return "table: finql takes any days"
     if number == 19 and name in SIMPLE + ("year_fraction",):
         return "start after end"
     if number == 15:
         return "limits of numbers"
     if number == 17 and (name in NOTES or name in SIMPLE or name in TEXTS or name in LENGTHS):
-        return "currency: lower case is taken" if rust.startswith("ok") else "currency: another refusal comes first"
+        return "currency: lower case is taken" if finql.startswith("ok") else "currency: another refusal comes first"
     if number == 4 and name in ("sub_from", "sub_from_with") and q.about[0][0] == LEAST:
         return "least number negated"
-    if number == 12 and name in ("add_to", "sub_from") and rust == "panic":
+    if number == 12 and name in ("add_to", "sub_from") and finql == "panic":
         return "business days without a table"
     if name in NOTES and number in (12, 14):
         return "coupon period of business days" if number == 12 else "coupon period below 1"
@@ -146,28 +146,28 @@ def explain(q, rust):
         return "number of the note"
     if name == "year_fraction" and number == 14:
         return "ICMA period below 1"
-    if name in SIMPLE and number in (9, 10) and rust == "panic":
+    if name in SIMPLE and number in (9, 10) and finql == "panic":
         return "Simple: a refused fraction panics"
     if name in COUPON:
-        if number == 8 and rust.startswith("ok") and int(re.match(rb"\D*(\d+)", q.about).group(1)) > 255:
+        if number == 8 and finql.startswith("ok") and int(re.match(rb"\D*(\d+)", q.about).group(1)) > 255:
             return "coupon day as u8"
-        if number == 6 and rust == "panic" and b"." not in q.about.strip():
+        if number == 6 and finql == "panic" and b"." not in q.about.strip():
             return "coupon text without a dot"
         if number == 6 and any(c > 127 for c in q.about):
             return "coupon text: blanks beyond ASCII"
     if name in NOTES and number == 8 and q.about[2]["coupon"][0] > 255:
         return "coupon day as u8"
-    if name in NOTES and number == 1 and rust in ("refused 7", "refused 8", "error ParseError"):
+    if name in NOTES and number == 1 and finql in ("refused 7", "refused 8", "error ParseError"):
         return "order: the coupon date is judged first"
-    if name in NOTES and number == 7 and rust.startswith("refused"):
+    if name in NOTES and number == 7 and finql.startswith("refused"):
         return None
     if number == 1:
         if name in ("add_to_with", "sub_from_with", "add_to") and q.about[0] == (LEAST, "B"):
             return "least number of business days"
-        if rust == "panic":
+        if finql == "panic":
             unit = q.about[2]["period"][1] if name in NOTES else q.about[0][1] if name in ("add_to", "sub_from", "add_to_with", "sub_from_with", "add_days") else ""
             if unit in ("D", "W"):
                 return "days or weeks past the range"
-        if into_year_0(q, rust):
+        if into_year_0(q, finql):
             return "before year 1"
     return None

@@ -8,7 +8,7 @@ MOST_BYTES = 390000
 
 
 def ours(program, records):
-    """The lines of `answers`, run on as many records at a time as its input takes."""
+    """The lines of `replay`, run on as many records at a time as its input takes."""
     lines, batch, size = [], [], 0
     for r in records + [None]:
         if r is None or size + len(r) > MOST_BYTES:
@@ -22,7 +22,7 @@ def ours(program, records):
     return lines
 
 
-def rust(program, lines):
+def finql(program, lines):
     if not lines:
         return []
     out = subprocess.run([program], input=("\n".join(lines) + "\n").encode(), stdout=subprocess.PIPE, check=True).stdout
@@ -50,7 +50,7 @@ def compare(answers, oracle, questions):
         tally.unexplained.append("%d answers to %d questions" % (len(mine), len(questions)))
         return tally
     asked = [q for q in questions if q.line is not None]
-    theirs = dict(zip(map(id, asked), rust(oracle, [q.line for q in asked])))
+    theirs = dict(zip(map(id, asked), finql(oracle, [q.line for q in asked])))
     for q, answer in zip(questions, mine):
         tally.asked[q.name] += 1
         if answer != q.expected:
@@ -66,5 +66,5 @@ def compare(answers, oracle, questions):
         if rule:
             tally.rules[rule] += 1
         else:
-            tally.unexplained.append("%s %s: document 01 %s, the Rust %s" % (q.name, q.line[:600], q.expected[:300], said[:300]))
+            tally.unexplained.append("%s %s: document 01 %s, finql %s" % (q.name, q.line[:600], q.expected[:300], said[:300]))
     return tally

@@ -1,5 +1,6 @@
 /*
- * The C face of Trelomavilk, a register of growers' notes. Link libexports.a (rt staticlib exports); it is for x86-64.
+ * The C face of Trelomavilk, a register of growers' notes. Link libc_face.a (rt staticlib c_face); it is for x86-64.
+ * The register comes under finql's licence, MIT OR Apache-2.0 at your choice; see NOTICE.
  *
  * Every function returns 0 for an answer, else the number of a refusal:
  *
@@ -15,7 +16,7 @@
  *   15  a number that is not finite or outside its limits
  *   16  fewer places than flows, or fewer bytes than text
  *   17  a currency malformed, or another one
- *   18  a packed record malformed, or a code that there is none of
+ *   18  a packed record malformed, or an unknown code
  *   19  the start after the end
  *
  * What is lent is written only where 0 is returned. On a refusal all of it keeps its contents, and past what is written it keeps them too.
@@ -103,7 +104,7 @@ uint32_t notes_write_coupon_date(uint32_t day, uint32_t month, uint8_t *out, siz
 /* Whether a serial day is a business day: 1 is yes and 0 is no. Refused: 1, 13. */
 uint32_t notes_is_business_day(uint32_t serial, const uint32_t *holidays, size_t holidays_len, uint32_t *yes);
 
-/* The serial day k business days on, and k back; none of them stays on the day. Refused: 1, 13, 1 for the result. */
+/* The serial day k business days on, and k back; with k = 0 it is the day itself. Refused: 1, 13, 1 for the result. */
 uint32_t notes_bdays_later(uint32_t serial, uint32_t k, const uint32_t *holidays, size_t holidays_len, uint32_t *found);
 uint32_t notes_bdays_earlier(uint32_t serial, uint32_t k, const uint32_t *holidays, size_t holidays_len, uint32_t *found);
 

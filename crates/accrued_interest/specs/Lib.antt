@@ -1,1 +1,2 @@
-pub mod Accrued
+pub mod period
+pub mod note

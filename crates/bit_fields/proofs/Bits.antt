@@ -1,5 +1,4 @@
 -- Fields and their numbers, each from the other; and bytes as bits.
--- Assumes nothing.
 use Prim.Native.Nat.{ℕ, zero, suc, _+_, _-_, _*_, _/_, _%_, _^_, _≤_, _<_}
 use mathlib.Core.Path.{_≡_, refl, sym, ap, subst, _∙_}
 use mathlib.Core.List.{List, [], _∷_, _++_, append-assoc, append-nil, map, map-append}
@@ -9,9 +8,9 @@ use lib.Arith.{digits-div, digits-mod}
 use lib.Pow.{pow-add, pow-mono}
 use lib.ListN.{length, take, drop, getD, length-append, length-drop, take-append-drop}
 use lib.Seq.{take-suc, take-add, take-at, drop-at, drop-nil, drop-drop, drop-append-add, getD-drop, length-take-le}
-use Rattle.paper.specs.Lists.{Every}
-use Rattle.paper.proofs.Lists.{every-append, every-take, every-drop}
-use Rattle.text_lengths.proofs.Numerals.{numeral, worth, Digit, length-numeral, numeral-are, numeral-split, worth-append, worth-value, worth-below, worth-numeral, numeral-worth}
+use Rattle.outcome.specs.Lists.{Every}
+use Rattle.outcome.proofs.Lists.{every-append, every-take, every-drop}
+use Rattle.number_text.proofs.length.Numerals.{numeral, worth, Digit, length-numeral, numeral-are, numeral-split, worth-append, worth-value, worth-below, worth-numeral, numeral-worth}
 use Rattle.bit_fields.specs.Bits.{Field, inBits, fieldBits, fieldsBits, continuedBits, bitsNumber, bitsOf, field, bytesNumber, bytesOf, AreBytes}
 
 -- ---- bits are numerals to the base two
@@ -284,3 +283,16 @@ field-found s at w x before behind e l h =
     ap (λ (t : List ℕ). bitsNumber (take w t)) there
     ∙ ap bitsNumber (take-at (fieldBits w x) behind w (length-field w x))
     ∙ number-field w x h
+
+-- a wide field, read in two parts
+module _ (s : List ℕ) (at w h l : ℕ) (e : h ≡ field s at (w - 32)) (f : l ≡ field s (at + (w - 32)) 32) (from : 32 ≤ w) (to : w ≤ 64) (there : at + w ≤ 8 * length s) where
+  pub high-below : h < 4294967296
+  high-below = rw (e) (lt-of-lt-of-le (field-below s at (w - 32) (omega arith)) (pow-mono {j = 32} (omega arith)))
+
+  pub two-below : h * 4294967296 + l < 18446744073709551616
+  two-below = let m : l < 4294967296 = rw (f) (field-below s (at + (w - 32)) 32 (omega arith)) in omega (arith, high-below)
+
+  pub two-parts : h * 4294967296 + l ≡ field s at w
+  two-parts =
+      let k : w - 32 + 32 ≡ w = omega arith in
+      rw (e, f) (sym (field-join s at (w - 32) 32 (omega arith)) ∙ ap (field s at) k)

@@ -1,5 +1,4 @@
 -- Fields by hand: bytes 5A 03 are 0101 1010 0000 0011.
--- Assumes nothing.
 use mathlib.Core.Path.{_≡_, refl}
 use mathlib.Core.List.{[], _∷_, _++_}
 use Rattle.bit_fields.specs.Bits.{fieldBits, fieldsBits, continuedBits, bitsOf, field, bytesOf}

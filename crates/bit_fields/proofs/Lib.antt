@@ -1,3 +1,3 @@
 pub mod Bits
-pub mod Pens
+pub mod BitWriters
 pub mod Examples

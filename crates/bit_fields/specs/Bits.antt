@@ -1,9 +1,8 @@
 -- Numbers in fields of bits, the most significant bit first.
--- Assumes nothing.
 use Prim.Native.Nat.{ℕ, zero, suc, _+_, _*_, _/_, _%_, _<_}
 use mathlib.Core.List.{List, [], _∷_, _++_, map}
 use lib.ListN.{take, drop}
-use Rattle.paper.specs.Lists.{Every}
+use Rattle.outcome.specs.Lists.{Every}
 
 -- the last w bits of n
 unfoldable pub fieldBits : ℕ → ℕ → List ℕ

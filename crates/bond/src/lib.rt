@@ -1,111 +1,21 @@
-// The note, as finql's bond.rs, and its checks in their order.
-ghost use mathlib.Core.Path.{_≡_};
-ghost use Rattle.time_period.specs.Steps.{needsTable};
-ghost use Rattle.bond.specs.Notes.{isPosition, noteOutcome, periodChecks, termChecks, ChecksPromise, NotePromise};
-use calendar::Date;
-use cash_amount::Currency;
-use coupon_date::CouponAnswer;
-use coupon_date::CouponDate;
-use day_adjust::DayAdjust;
-use day_count_conv::DayCountConv;
-use note_limits::NoteNumber;
-use time_period::TimePeriod;
-use time_period::TimePeriodUnit;
+// The note: its limits, its checks in their order, its first coupon end, and what a fraction of a
+// year pays.
+pub mod coupons;
+pub mod limits;
+pub mod note;
 
-pub struct Note {
-    pub number: NoteNumber,
-    pub issue_date: Date,
-    pub maturity: Date,
-    pub coupon_date: CouponDate,
-    pub period: TimePeriod,
-    pub day_count_convention: DayCountConv,
-    pub business_day_rule: DayAdjust,
-    pub denomination: u32,
-    pub rate: f64,
-    pub currency: Currency,
-}
+pub use limits::NO_RATE;
+pub use limits::NoteNumber;
+pub use limits::is_coupon_rate;
+pub use limits::is_note_number;
+pub use note::Note;
+pub use note::NoteAnswer;
+pub use note::check_note;
+pub use note::check_note_with;
+pub use note::is_position;
 
-pub enum NoteAnswer {
-    Note(Note),
-    Refused(u32),
-}
-
-// Finite, from -1e9 to 1e9; a negative zero is one of them.
-pub fn is_position(position: f64) -> bool
-    ensures { λ r. ⌜ r ≡ isPosition position ⌝ }
-{
-    cash_amount::is_up_to_billion(position)
-}
-
-fn is_business(unit: TimePeriodUnit) -> bool
-    ensures { λ r. ⌜ r ≡ needsTable unit ⌝ }
-{
-    match unit {
-        TimePeriodUnit::Daily => false,
-        TimePeriodUnit::BusinessDaily => true,
-        TimePeriodUnit::Weekly => false,
-        TimePeriodUnit::Monthly => false,
-        TimePeriodUnit::Annual => false,
-    }
-}
-
-// 13, 14 and 12, the last whether there is a table or not.
-fn check_period(note: Note, table: bool) -> NoteAnswer
-    ensures { λ r. ⌜ noteOutcome r ≡ periodChecks table note ⌝ }
-{
-    if !table {
-        return NoteAnswer::Refused(paper::BAD_HOLIDAY_TABLE);
-    }
-    let period = note.period;
-    if period.num < 1 {
-        return NoteAnswer::Refused(paper::PERIOD_BELOW_ONE);
-    }
-    let unit = period.unit;
-    if is_business(unit) {
-        return NoteAnswer::Refused(paper::MISSING_CALENDAR);
-    }
-    NoteAnswer::Note(note)
-}
-
-// 1 for the dates, 7 and 8 for the coupon date, then the period's.
-fn check_terms(note: Note, table: bool) -> NoteAnswer
-    ensures { λ r. ⌜ noteOutcome r ≡ termChecks table note ⌝ }
-{
-    if !calendar::is_date(note.issue_date) {
-        return NoteAnswer::Refused(paper::INVALID_DATE);
-    }
-    if !calendar::is_date(note.maturity) {
-        return NoteAnswer::Refused(paper::INVALID_DATE);
-    }
-    let coupon = note.coupon_date;
-    match coupon_date::new_coupon_date(coupon.day, coupon.month) {
-        CouponAnswer::Coupon(_) => check_period(note, table),
-        CouponAnswer::Refused(n) => NoteAnswer::Refused(n),
-    }
-}
-
-// The checks of a note in their order, with what a caller found of its position and of its holiday table.
-pub fn check_note_with(note: Note, position: bool, table: bool) -> NoteAnswer
-    ensures { λ r. ⌜ ChecksPromise position table note r ⌝ }
-{
-    if !note_limits::is_note_number(note.number) {
-        return NoteAnswer::Refused(paper::MALFORMED_RECORD);
-    }
-    if !note_limits::is_rate(note.rate) {
-        return NoteAnswer::Refused(paper::NUMBER_OUT_OF_LIMITS);
-    }
-    if !position {
-        return NoteAnswer::Refused(paper::NUMBER_OUT_OF_LIMITS);
-    }
-    if !cash_amount::is_currency(note.currency) {
-        return NoteAnswer::Refused(paper::BAD_CURRENCY);
-    }
-    check_terms(note, table)
-}
-
-// The checks of a note alone.
-pub fn check_note(note: Note) -> NoteAnswer
-    ensures { λ r. ⌜ NotePromise note r ⌝ }
-{
-    check_note_with(note, true, true)
-}
+// Inner: for the crates of the register, which have judged what these ask for.
+pub use coupons::coupon_amount;
+pub use coupons::first_coupon_end;
+pub use coupons::interest;
+pub use coupons::nominal;

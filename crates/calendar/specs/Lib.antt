@@ -1,2 +1,3 @@
-pub mod Dates
-pub mod Answers
+pub mod gregorian
+pub mod dates
+pub mod serial

@@ -1,99 +1,33 @@
-// The calendar of document 01: its dates and serial days, judged and compared.
-ghost use mathlib.Core.Path.{_≡_};
-ghost use Rattle.calendar.specs.Dates.{isDate, isDay, isBefore, isSame};
+// The calendar of document 01: dates, serial days and weekdays, each found from the other.
+pub mod convert;
+pub mod dates;
+pub mod gregorian;
+pub mod serial;
 
-// A serial day: 1 is 0001-01-01, and 3652059 is 9999-12-31.
-pub struct Day(pub u32);
+pub use dates::Date;
+pub use dates::Day;
+pub use dates::Days;
+pub use dates::LAST_DAY;
+pub use dates::LAST_YEAR;
+pub use dates::is_before;
+pub use dates::is_date;
+pub use dates::is_day;
+pub use dates::is_same;
+pub use gregorian::is_leap;
+pub use gregorian::length_of_month;
+pub use gregorian::length_of_year;
+pub use serial::DateAnswer;
+pub use serial::DayAnswer;
+pub use serial::DaysAnswer;
+pub use serial::WeekdayAnswer;
+pub use serial::date_of;
+pub use serial::day_after;
+pub use serial::day_of;
+pub use serial::days_between;
+pub use serial::weekday;
 
-// A day count: the length between two serial days.
-pub struct Days(pub u32);
-
-pub struct Date {
-    pub year: u32,
-    pub month: u32,
-    pub day: u32,
-}
-
-pub enum DayAnswer {
-    Day(Day),
-    Refused(u32),
-}
-
-pub enum DaysAnswer {
-    Days(Days),
-    Refused(u32),
-}
-
-pub enum DateAnswer {
-    Date(Date),
-    Refused(u32),
-}
-
-// Monday is 1 and Sunday 7.
-pub enum WeekdayAnswer {
-    Weekday(u32),
-    Refused(u32),
-}
-
-pub const LAST_YEAR: u32 = 9999;
-
-pub const LAST_DAY: u32 = 3652059;
-
-pub fn is_date(t: Date) -> bool
-    ensures { λ r. ⌜ r ≡ isDate t ⌝ }
-{
-    if t.month < 1 {
-        return false;
-    }
-    if 12 < t.month {
-        return false;
-    }
-    if t.day < 1 {
-        return false;
-    }
-    if t.year < 1 {
-        return false;
-    }
-    if LAST_YEAR < t.year {
-        return false;
-    }
-    // Every month has 28 days.
-    if t.day <= 28 {
-        return true;
-    }
-    t.day <= gregorian::length_of_month(t.year, t.month)
-}
-
-pub fn is_day(d: Day) -> bool
-    ensures { λ r. ⌜ r ≡ isDay d ⌝ }
-{
-    if d.0 < 1 {
-        return false;
-    }
-    d.0 <= LAST_DAY
-}
-
-// Year by year, then month by month, then day by day: no serial day is taken.
-pub fn is_before(a: Date, b: Date) -> bool
-    ensures { λ r. ⌜ r ≡ isBefore a b ⌝ }
-{
-    if a.year != b.year {
-        return a.year < b.year;
-    }
-    if a.month != b.month {
-        return a.month < b.month;
-    }
-    a.day < b.day
-}
-
-pub fn is_same(a: Date, b: Date) -> bool
-    ensures { λ r. ⌜ r ≡ isSame a b ⌝ }
-{
-    if a.year != b.year {
-        return false;
-    }
-    if a.month != b.month {
-        return false;
-    }
-    a.day == b.day
-}
+// Inner: for the crates of the register, which have judged what these ask for.
+pub use convert::date_of_day;
+pub use convert::day_of_date;
+pub use gregorian::days_before_month;
+pub use gregorian::first_of_year;

@@ -1,69 +1,18 @@
-// Cash flows: an amount of a currency on a date; comparison of two.
-ghost use mathlib.Core.Path.{_≡_};
-ghost use Rattle.cash_flow.specs.Flows.{noDate, dateOn, isWithin, AggregatablePromise, ComparisonPromise};
-use calendar::Date;
-use calendar::DateAnswer;
-use calendar::Day;
-use cash_amount::Currency;
+// A cash flow: its date, its currency and its amount; `round2digits`; comparison of two flows.
+pub mod currency;
+pub mod flow;
+pub mod round;
 
-pub struct CashFlow {
-    pub date: Date,
-    pub currency: Currency,
-    pub amount: f64,
-}
+pub use currency::AmountAnswer;
+pub use currency::Currency;
+pub use currency::is_currency;
+pub use currency::is_same_currency;
+pub use currency::is_up_to_billion;
+pub use flow::CashFlow;
+pub use flow::FlowsAnswer;
+pub use flow::aggregatable;
+pub use flow::fuzzy_cash_flows_cmp_eq;
+pub use round::round2digits;
 
-// How many flows were written into lent room.
-pub enum FlowsAnswer {
-    Flows(usize),
-    Refused(u32),
-}
-
-fn no_date() -> Date
-    ensures { λ r. ⌜ r ≡ noDate ⌝ }
-{
-    Date {
-        year: 0,
-        month: 0,
-        day: 0,
-    }
-}
-
-// Inner: a day in a plain list is judged by who reads the list. Its date; one that does not exist for a day that does not.
-pub fn date_on(day: u32) -> Date
-    ensures { λ r. ⌜ r ≡ dateOn day ⌝ }
-{
-    match serial_days::date_of(Day(day)) {
-        DateAnswer::Date(date) => date,
-        DateAnswer::Refused(_n) => no_date(),
-    }
-}
-
-// The same date and the same currency; it refuses nothing, and neither has to exist.
-pub fn aggregatable(a: CashFlow, b: CashFlow) -> bool
-    ensures { λ r. ⌜ AggregatablePromise a b r ⌝ }
-{
-    if !calendar::is_same(a.date, b.date) {
-        return false;
-    }
-    cash_amount::is_same_currency(a.currency, b.currency)
-}
-
-// finql's `abs() <= tol`, the sign dropped by hand; a NaN on either side is no.
-fn is_within(d: f64, tol: f64) -> bool
-    ensures { λ r. ⌜ r ≡ isWithin d tol ⌝ }
-{
-    if d < 0.0 {
-        return -d <= tol;
-    }
-    d <= tol
-}
-
-// Equal within a tolerance; it refuses nothing.
-pub fn fuzzy_cash_flows_cmp_eq(a: CashFlow, b: CashFlow, tol: f64) -> bool
-    ensures { λ r. ⌜ ComparisonPromise a b tol r ⌝ }
-{
-    if !aggregatable(a, b) {
-        return false;
-    }
-    is_within(a.amount - b.amount, tol)
-}
+// Inner: for the crates of the register, which have judged what these ask for.
+pub use flow::date_or_none;

@@ -1,13 +1,12 @@
 -- What a coupon date that is given is: the pair that was judged, within its limits.
--- Assumes nothing.
 use Prim.Native.Nat.{ℕ, _≤_}
 use mathlib.Core.Path.{_≡_, sym}
 use lib.Dec.{leb}
 use borrow.Author.Tests.{leb-true}
-use Rattle.paper.specs.Outcome.{given, unless, both}
-use Rattle.paper.proofs.Outcomes.{given-injective, unless-given, both-true}
-use Rattle.paper.proofs.Numbers.{between}
-use Rattle.gregorian.specs.Gregorian.{monthLength}
+use Rattle.outcome.specs.Outcome.{given, unless, both}
+use Rattle.outcome.proofs.Outcomes.{given-injective, unless-given, both-true}
+use Rattle.outcome.proofs.Numbers.{between}
+use Rattle.calendar.specs.gregorian.Gregorian.{monthLength}
 use Rattle.coupon_date.specs.Coupons.{couponDate}
 use Rattle.coupon_date.specs.declared.CouponDate.{CouponDate}
 

@@ -1,9 +1,8 @@
 -- Coupon dates that the paper and the lists of slips name, as theorems about the definitions.
--- Assumes nothing.
 use Prim.Native.Nat.{ℕ}
 use mathlib.Core.Path.{_≡_, refl}
-use Rattle.paper.specs.Outcome.{given, refused}
-use Rattle.gregorian.specs.Gregorian.{leap, lengthIn, monthLength}
+use Rattle.outcome.specs.Outcome.{given, refused}
+use Rattle.calendar.specs.gregorian.Gregorian.{leap, lengthIn, monthLength}
 use Rattle.coupon_date.specs.Coupons.{couponDate}
 use Rattle.coupon_date.specs.declared.CouponDate.{CouponDate}
 

@@ -1,18 +1,21 @@
 -- No second answer satisfies an entry point's promise; and a refusal's number is never 0.
--- Assumes nothing.
 use Prim.Native.Nat.{ℕ}
 use mathlib.Core.Path.{_≡_, refl, sym, _∙_}
 use native.Mathlib.Omega.{arith}
 use lib.Dec.{leb}
-use Rattle.paper.specs.Outcome.{Numbered, both}
-use Rattle.paper.proofs.Outcomes.{unless-numbered, answerOf, one-answer}
-use Rattle.gregorian.specs.Gregorian.{monthLength}
-use Rattle.coupon_date.specs.Coupons.{couponOutcome, couponDate, NewPromise}
+use Rattle.outcome.specs.Outcome.{Numbered, both}
+use Rattle.outcome.proofs.Outcomes.{unless-numbered, answerOf, one-answer, Returns, returns}
+use Rattle.calendar.specs.gregorian.Gregorian.{monthLength}
+use Rattle.coupon_date.specs.Coupons.{couponOutcome, couponZero, couponReturned, couponDate, NewPromise}
 use Rattle.coupon_date.specs.declared.CouponAnswer.{CouponAnswer}
 use Rattle.coupon_date.specs.declared.CouponAnswer.the-variants as coupon-answer
 
 pub same-coupon-answer : (r s : CouponAnswer) → couponOutcome r ≡ couponOutcome s → r ≡ s
 same-coupon-answer r s e = one-answer couponOutcome coupon-answer.Coupon coupon-answer.Refused (λ x. elim x as (λ y. answerOf coupon-answer.Coupon coupon-answer.Refused (couponOutcome y) ≡ y) [ coupon-answer.Coupon v ↦ refl | coupon-answer.Refused n ↦ refl ]) r s e
+
+-- a refusal returns its number and the zero
+pub coupon-returned : Returns couponOutcome couponZero couponReturned
+coupon-returned = returns couponOutcome couponZero
 
 pub one-new : (d m : ℕ) (r s : CouponAnswer) → NewPromise d m r → NewPromise d m s → r ≡ s
 one-new d m r s p q = same-coupon-answer r s (p ∙ sym q)

@@ -14,21 +14,21 @@ pub enum CouponAnswer {
 // Any year that is not a leap year will do: 29.02 is no coupon date.
 const COMMON_YEAR: u32 = 2019;
 
-// The check of a pair of numbers.
+// The coupon date of a day and a month; refused 7, 8.
 pub fn new_coupon_date(day: u32, month: u32) -> CouponAnswer
     ensures { λ r. ⌜ NewPromise day month r ⌝ }
 {
     if day == 0 {
-        return CouponAnswer::Refused(paper::DAY_OUT_OF_RANGE);
+        return CouponAnswer::Refused(outcome::DAY_OUT_OF_RANGE);
     }
     if month == 0 {
-        return CouponAnswer::Refused(paper::DAY_OUT_OF_RANGE);
+        return CouponAnswer::Refused(outcome::DAY_OUT_OF_RANGE);
     }
     if 12 < month {
-        return CouponAnswer::Refused(paper::DAY_OUT_OF_RANGE);
+        return CouponAnswer::Refused(outcome::DAY_OUT_OF_RANGE);
     }
-    if gregorian::length_of_month(COMMON_YEAR, month) < day {
-        return CouponAnswer::Refused(paper::DAY_TOO_BIG);
+    if calendar::length_of_month(COMMON_YEAR, month) < day {
+        return CouponAnswer::Refused(outcome::DAY_TOO_BIG);
     }
     CouponAnswer::Coupon(CouponDate { day, month })
 }

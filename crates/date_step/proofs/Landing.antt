@@ -1,5 +1,4 @@
 -- Where a signed move leads: what the machine computes at 64 bits is the sum of whole numbers.
--- Assumes nothing.
 use Prim.Native.Nat.{ℕ, suc, _+_, _-_, _^_, _≤_, _<_}
 use mathlib.Core.Path.{_≡_, refl, sym, _∙_, ap, ap₂, subst}
 use mathlib.Core.Bool.{Bool, true, false, cond, false≢true}
@@ -11,9 +10,9 @@ use mir.Syntax.{w32, w64}
 use mir.Val.{SFits, toZ, ofZ}
 use mir.Facts.{toZ-ofZ, toZ-pos}
 use borrow.Author.Tests.{ltb-true, ltb-false, lt-leb, lt-ltb}
-use Rattle.paper.proofs.Numbers.{widened}
-use Rattle.paper.specs.Outcome.{given, refused}
-use Rattle.date_step.specs.Steps.{landing}
+use Rattle.outcome.proofs.Numbers.{widened}
+use Rattle.outcome.specs.Outcome.{given, refused}
+use Rattle.date_step.specs.Steps.{fromZeroTo}
 use Rattle.date_step.proofs.Steps.{lands-at}
 
 -- a number and a negative one that is the greater
@@ -22,14 +21,14 @@ sum-below a k h = rw (lt-ltb a (suc k) (omega arith)) (ap negsuc (omega arith))
 
 module _ (last : ℕ) where
   -- below 0 there is no place
-  pub below : (z : ℤ) → ltZ z (pos 0) ≡ true → refused 1 ≡ landing last z
-  unfolding landing
+  pub below : (z : ℤ) → ltZ z (pos 0) ≡ true → refused 1 ≡ fromZeroTo last z
+  unfolding fromZeroTo
   below (pos k) e = absurd (omega (arith, ltb-true k 0 e))
   below (negsuc k) e = refl
 
   -- nor past the last
-  pub beyond : (z : ℤ) → ltZ (pos last) z ≡ true → refused 1 ≡ landing last z
-  unfolding landing
+  pub beyond : (z : ℤ) → ltZ (pos last) z ≡ true → refused 1 ≡ fromZeroTo last z
+  unfolding fromZeroTo
   beyond (pos k) e = rw (lt-leb k last (ltb-true last k e))
   beyond (negsuc k) e = absurd (false≢true e)
 
@@ -37,18 +36,18 @@ module _ (last : ℕ) where
   within (pos k) t e = ltb-false last k e
   within (negsuc k) t e = absurd t
 
-  pub lands : (z : ℤ) → T (nonNeg z) → ltZ (pos last) z ≡ false → given (natAbs z) ≡ landing last z
-  lands z t e = sym (lands-at last (natAbs z) (within z t e)) ∙ ap (landing last) (pos-natAbs z t)
+  pub lands : (z : ℤ) → T (nonNeg z) → ltZ (pos last) z ≡ false → given (natAbs z) ≡ fromZeroTo last z
+  lands z t e = sym (lands-at last (natAbs z) (within z t e)) ∙ ap (fromZeroTo last) (pos-natAbs z t)
 
   -- a move of more than the whole calendar leads out of it
   module _ (a most : ℕ) (ha : a ≤ most) (hl : last ≤ most) where
-    pub far-back : (n : ℤ) → ltZ n (negsuc (most - 1)) ≡ true → refused 1 ≡ landing last (pos a +ℤ n)
-    unfolding landing
+    pub far-back : (n : ℤ) → ltZ n (negsuc (most - 1)) ≡ true → refused 1 ≡ fromZeroTo last (pos a +ℤ n)
+    unfolding fromZeroTo
     far-back (pos k) e = absurd (false≢true e)
     far-back (negsuc k) e = let l : most - 1 < k = ltb-true (most - 1) k e in rw (sum-below a k (omega arith))
 
-    pub far-on : (n : ℤ) → ltZ (pos most) n ≡ true → refused 1 ≡ landing last (pos a +ℤ n)
-    unfolding landing
+    pub far-on : (n : ℤ) → ltZ (pos most) n ≡ true → refused 1 ≡ fromZeroTo last (pos a +ℤ n)
+    unfolding fromZeroTo
     far-on (pos k) e = let l : most < k = ltb-true most k e in rw (lt-leb (a + k) last (omega arith))
     far-on (negsuc k) e = absurd (false≢true e)
 

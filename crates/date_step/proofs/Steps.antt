@@ -1,5 +1,4 @@
 -- What a step of months, years or days leads to.
--- Assumes nothing.
 use Prim.Native.Nat.{ℕ, zero, suc, _-_, _≤_, _<_, min}
 use mathlib.Core.Path.{_≡_, refl, sym, _∙_, ap, subst}
 use mathlib.Core.Bool.{true}
@@ -8,20 +7,20 @@ use native.Mathlib.Decide.{decLt}
 use lib.Dec.{leb}
 use lib.IntN.{ℤ, pos, negsuc, sucℤ, _+ℤ_, sucℤ-+ℤ}
 use borrow.Author.Tests.{le-leb, lt-leb, leb-true}
-use Rattle.paper.specs.Outcome.{given, unless, both, andThen}
-use Rattle.paper.proofs.Outcomes.{given-injective, given-not-refused, unless-given, then-given}
-use Rattle.gregorian.specs.Gregorian.{monthLength}
-use Rattle.calendar.specs.Dates.{isDate, isDay, dayNumber, theDate, monthIndex, monthDate}
-use Rattle.calendar.specs.Answers.{dateOf}
-use Rattle.date_step.specs.Steps.{landing, monthsLater, addMonths, existingDate, yearsLater, addYears, daysLater, addDays}
-use Rattle.calendar.specs.declared.Date.{Date}
-use Rattle.calendar.proofs.Dates.{IsDate, date-yes}
-use Rattle.calendar.proofs.Inverse.{on-day}
-use Rattle.calendar.proofs.Order.{InMonth, month-date}
+use Rattle.outcome.specs.Outcome.{given, unless, both, andThen}
+use Rattle.outcome.proofs.Outcomes.{given-injective, given-not-refused, unless-given, then-given}
+use Rattle.calendar.specs.gregorian.Gregorian.{monthLength}
+use Rattle.calendar.specs.dates.Dates.{isDate, isDay, dayNumber, theDate, monthIndex, monthDate}
+use Rattle.calendar.specs.serial.Answers.{dateOf}
+use Rattle.date_step.specs.Steps.{fromZeroTo, monthsLater, addMonths, existingDate, yearsLater, addYears, daysLater, addDays}
+use Rattle.calendar.specs.declared.dates.Date.{Date}
+use Rattle.calendar.proofs.dates.Dates.{IsDate, date-yes}
+use Rattle.calendar.proofs.dates.Inverse.{on-day}
+use Rattle.calendar.proofs.dates.Order.{InMonth, month-date}
 
 -- what was reached is the number moved to
-pub landed : (last : ℕ) (z : ℤ) (i : ℕ) → landing last z ≡ given i → (z ≡ pos i) × (i ≤ last)
-unfolding landing
+pub landed : (last : ℕ) (z : ℤ) (i : ℕ) → fromZeroTo last z ≡ given i → (z ≡ pos i) × (i ≤ last)
+unfolding fromZeroTo
 landed last (pos k) i e =
     let u = unless-given (leb k last) 1 (given k) i e in
     let q : k ≡ i = given-injective (u .1) in
@@ -29,8 +28,8 @@ landed last (pos k) i e =
     (ap pos q, omega arith)
 landed last (negsuc k) i e = absurd (given-not-refused (sym e))
 
-pub lands-at : (last i : ℕ) → i ≤ last → landing last (pos i) ≡ given i
-unfolding landing
+pub lands-at : (last i : ℕ) → i ≤ last → fromZeroTo last (pos i) ≡ given i
+unfolding fromZeroTo
 lands-at last i h = rw (le-leb i last h)
 
 -- n months on: the month's number moves by n, and the day is cut to the month's last
@@ -45,7 +44,7 @@ unfolding addMonths monthsLater
 months-on t n u e =
     let g = unless-given (isDate t) 1 _ u e in
     let h = date-yes t (g .0) in
-    let m = then-given (landing 119987 (pos (monthIndex t) +ℤ n)) (λ i. given (monthDate i (t .day))) u (g .1) in
+    let m = then-given (fromZeroTo 119987 (pos (monthIndex t) +ℤ n)) (λ i. given (monthDate i (t .day))) u (g .1) in
     let l = landed 119987 (pos (monthIndex t) +ℤ n) (m .0) (m .1) in
     let i : InMonth (m .0) (t .day) u = subst (InMonth (m .0) (t .day)) (given-injective (m .2)) (month-date (m .0) (t .day) (h .day-from) (l .1)) in
     record { from = h; dated = i .dated; index = l .0 ∙ ap pos (sym (i .index)); cut = i .cut }
@@ -71,7 +70,7 @@ pub years-on : (t : Date) (n : ℤ) (u : Date) → addYears t n ≡ given u → 
 unfolding addYears yearsLater existingDate
 years-on t n u e =
     let g = unless-given (isDate t) 1 _ u e in
-    let m = then-given (landing 9999 (pos (t .year) +ℤ n)) (λ y. existingDate (record { year = y; month = t .month; day = t .day })) u (g .1) in
+    let m = then-given (fromZeroTo 9999 (pos (t .year) +ℤ n)) (λ y. existingDate (record { year = y; month = t .month; day = t .day })) u (g .1) in
     let l = landed 9999 (pos (t .year) +ℤ n) (m .0) (m .1) in
     let v : Date = record { year = m .0; month = t .month; day = t .day } in
     let x = unless-given (isDate v) 1 (given v) u (m .2) in
@@ -85,8 +84,8 @@ years-on t n u e =
     }
 
 -- days counted from 0: one that lands there has a date, and none other
-from-zero : (z : ℤ) → andThen (landing 3652058 z) (λ i. given (theDate (suc i))) ≡ andThen (landing 3652059 (sucℤ z)) (λ k. dateOf (record { 0 = k }))
-unfolding landing dateOf isDay
+from-zero : (z : ℤ) → andThen (fromZeroTo 3652058 z) (λ i. given (theDate (suc i))) ≡ andThen (fromZeroTo 3652059 (sucℤ z)) (λ k. dateOf (record { 0 = k }))
+unfolding fromZeroTo dateOf isDay
 from-zero (pos k) = by (decLt 3652058 k)
   where
     by : Dec (3652058 < k) → andThen (unless (leb k 3652058) 1 (given k)) (λ i. given (theDate (suc i))) ≡ andThen (unless (leb (suc k) 3652059) 1 (given (suc k))) (λ i. unless (both (leb 1 i) (leb i 3652059)) 1 (given (theDate i)))
@@ -97,11 +96,11 @@ from-zero (pos k) = by (decLt 3652058 k)
 from-zero (negsuc zero) = refl
 from-zero (negsuc (suc k)) = refl
 
-pub days-from-zero : (t : Date) (n : ℤ) → 1 ≤ dayNumber t → andThen (landing 3652058 (pos (dayNumber t - 1) +ℤ n)) (λ i. given (theDate (suc i))) ≡ daysLater t n
+pub days-from-zero : (t : Date) (n : ℤ) → 1 ≤ dayNumber t → andThen (fromZeroTo 3652058 (pos (dayNumber t - 1) +ℤ n)) (λ i. given (theDate (suc i))) ≡ daysLater t n
 unfolding daysLater
 days-from-zero t n h =
     let e : suc (dayNumber t - 1) ≡ dayNumber t = omega arith in
-    from-zero (pos (dayNumber t - 1) +ℤ n) ∙ ap (λ (z : ℤ). andThen (landing 3652059 z) (λ k. dateOf (record { 0 = k }))) (sym (sucℤ-+ℤ (pos (dayNumber t - 1)) n) ∙ ap (λ (k : ℕ). pos k +ℤ n) e)
+    from-zero (pos (dayNumber t - 1) +ℤ n) ∙ ap (λ (z : ℤ). andThen (fromZeroTo 3652059 z) (λ k. dateOf (record { 0 = k }))) (sym (sucℤ-+ℤ (pos (dayNumber t - 1)) n) ∙ ap (λ (k : ℕ). pos k +ℤ n) e)
 
 -- n days on: the serial day moves by n
 pub record DaysOn (t : Date) (n : ℤ) (u : Date) : Type 0 where
@@ -113,7 +112,7 @@ pub days-on : (t : Date) (n : ℤ) (u : Date) → addDays t n ≡ given u → Da
 unfolding addDays daysLater
 days-on t n u e =
     let g = unless-given (isDate t) 1 _ u e in
-    let m = then-given (landing 3652059 (pos (dayNumber t) +ℤ n)) (λ k. dateOf (record { 0 = k })) u (g .1) in
+    let m = then-given (fromZeroTo 3652059 (pos (dayNumber t) +ℤ n)) (λ k. dateOf (record { 0 = k })) u (g .1) in
     let l = landed 3652059 (pos (dayNumber t) +ℤ n) (m .0) (m .1) in
     let d = on-day (record { 0 = m .0 }) u (m .2) in
     record { from = date-yes t (g .0); dated = d .0; number = l .0 ∙ ap pos (sym (d .1)) }

@@ -1,24 +1,24 @@
--- The laws of adjustment: none leaves every date, and what the other rules give is a business day on its side.
--- Assumes nothing.
+-- The laws of adjustment: none leaves every date, and what the other rules give is a business day
+-- on its side.
 use Prim.Native.Nat.{ℕ, _<_}
 use mathlib.Core.Path.{_≡_, refl, sym, _∙_, ap, subst}
 use mathlib.Core.Bool.{Bool, true, false}
 use mathlib.Core.List.{List}
 use lib.Dec.{eqb}
-use Rattle.paper.specs.Outcome.{given, pick}
-use Rattle.paper.proofs.Outcomes.{given-injective, then-given}
-use Rattle.calendar.specs.Dates.{isDate, dayNumber}
-use Rattle.calendar.specs.Answers.{dateOf}
-use Rattle.calendar.specs.declared.Date.{Date}
-use Rattle.calendar.proofs.Dates.{IsDate, date-yes, number-from, number-to}
-use Rattle.calendar.proofs.Inverse.{on-day}
-use Rattle.holidays.specs.Table.{ascending}
-use Rattle.holidays.specs.Search.{Judged}
-use Rattle.holidays.specs.Business.{isBusiness, nextFrom, prevFrom}
+use Rattle.outcome.specs.Outcome.{given, pick}
+use Rattle.outcome.proofs.Outcomes.{given-injective, then-given}
+use Rattle.calendar.specs.dates.Dates.{isDate, dayNumber}
+use Rattle.calendar.specs.serial.Answers.{dateOf}
+use Rattle.calendar.specs.declared.dates.Date.{Date}
+use Rattle.calendar.proofs.dates.Dates.{IsDate, date-yes, number-from, number-to}
+use Rattle.calendar.proofs.dates.Inverse.{on-day}
+use Rattle.business_days.specs.table.Table.{ascending}
+use Rattle.business_days.specs.table.Search.{JudgedDay}
+use Rattle.business_days.specs.table.Business.{isBusiness, nextFrom, prevFrom}
 use Rattle.day_adjust.specs.Adjustment.{nextDate, prevDate, modifiedDate, movedDate, adjusted}
 use Rattle.day_adjust.specs.declared.DayAdjust.{DayAdjust}
 use Rattle.day_adjust.specs.declared.DayAdjust.the-variants as rule
-use Rattle.holidays.proofs.Days.{next-gives, prev-gives}
+use Rattle.business_days.proofs.table.Days.{next-gives, prev-gives}
 
 pub none-stays : (t : Date) (table : List ℕ) → adjusted rule.None t table ≡ given t
 unfolding adjusted
@@ -29,15 +29,15 @@ none-stays t table = by (isBusiness table (dayNumber t))
     by false = refl
 
 -- a judged date's serial day, over holidays that ascend
-pub judged : (t : Date) (table : List ℕ) → isDate t ≡ true → ascending table ≡ true → Judged (dayNumber t) table
+pub judged : (t : Date) (table : List ℕ) → isDate t ≡ true → ascending table ≡ true → JudgedDay (dayNumber t) table
 judged t table d a =
     let h = date-yes t d in
     record { from = number-from t h; to = number-to t h; sorted = a }
 
 -- and of its serial day by another name; a business day stays, and any other moves
 module _ (t : Date) (n : ℕ) (table : List ℕ) (own : n ≡ dayNumber t) where
-  pub judged-at : isDate t ≡ true → ascending table ≡ true → Judged n table
-  judged-at d a = subst (λ (x : ℕ). Judged x table) (sym own) (judged t table d a)
+  pub judged-at : isDate t ≡ true → ascending table ≡ true → JudgedDay n table
+  judged-at d a = subst (λ (x : ℕ). JudgedDay x table) (sym own) (judged t table d a)
 
   pub open-stays : (r : DayAdjust) → isBusiness table n ≡ true → given t ≡ adjusted r t table
   unfolding adjusted

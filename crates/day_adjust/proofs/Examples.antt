@@ -1,23 +1,22 @@
 -- The desk card's l, and the ends of the calendar, as theorems about the definitions.
--- Assumes nothing.
 use Prim.Native.Nat.{ℕ}
 use mathlib.Core.Path.{_≡_, refl, ap, _∙_}
 use mathlib.Core.List.{List, [], _∷_}
 use lib.Dec.{eqb, lit≤}
-use Rattle.paper.specs.Outcome.{Outcome, given, refused, andThen, pick}
-use Rattle.calendar.specs.Dates.{isDate, isDay}
-use Rattle.calendar.specs.Answers.{weekdayOf}
-use Rattle.calendar.specs.declared.Date.{Date}
-use Rattle.calendar.proofs.Dates.{number-by-rule}
-use Rattle.calendar.proofs.Inverse.{date-at}
-use Rattle.calendar.proofs.Examples.{first-number, last-number, saturday-number}
-use Rattle.gregorian.specs.Gregorian.{leap, lengthIn, monthLength, before}
-use Rattle.holidays.specs.Table.{ascendsFrom, isTable, listed}
-use Rattle.holidays.specs.Business.{isWeekend, isBusiness, firstOf, nextFrom, lastOf, prevFrom}
+use Rattle.outcome.specs.Outcome.{Outcome, given, refused, andThen, pick}
+use Rattle.calendar.specs.dates.Dates.{isDate, isDay}
+use Rattle.calendar.specs.serial.Answers.{weekdayOf}
+use Rattle.calendar.specs.declared.dates.Date.{Date}
+use Rattle.calendar.proofs.dates.Dates.{number-by-rule}
+use Rattle.calendar.proofs.dates.Inverse.{date-at}
+use Rattle.calendar.proofs.dates.Examples.{first-number, last-number, saturday-number}
+use Rattle.calendar.specs.gregorian.Gregorian.{leap, lengthIn, monthLength, daysBefore}
+use Rattle.business_days.specs.table.Table.{ascendsFrom, isTable, isListed}
+use Rattle.business_days.specs.table.Business.{isWeekend, isBusiness, firstOf, nextFrom, lastOf, prevFrom}
 use Rattle.day_adjust.specs.Adjustment.{nextDate, prevDate, modifiedDate, movedDate, adjusted, adjustDate}
 use Rattle.day_adjust.specs.declared.DayAdjust.{DayAdjust}
 use Rattle.day_adjust.specs.declared.DayAdjust.the-variants as rule
-use Rattle.calendar.proofs.Examples.{on}
+use Rattle.calendar.proofs.dates.Examples.{on}
 
 -- where a date with the serial day n moves
 abbrev movedFrom : DayAdjust → Date → List ℕ → ℕ → Outcome Date
@@ -30,7 +29,7 @@ pub record Card : Type 0 where
   pub none : adjustDate rule.None (on 2021 7 31) [] ≡ given (on 2021 7 31)
 
 pub card : Card
-unfolding leap lengthIn monthLength before isDate isDay weekdayOf ascendsFrom isTable listed isWeekend isBusiness firstOf nextFrom lastOf prevFrom nextDate prevDate modifiedDate adjusted adjustDate
+unfolding leap lengthIn monthLength daysBefore isDate isDay weekdayOf ascendsFrom isTable isListed isWeekend isBusiness firstOf nextFrom lastOf prevFrom nextDate prevDate modifiedDate adjusted adjustDate
 card =
     let friday = date-at (on 2021 7 30) 738001 refl (number-by-rule 2021 7 30 (lit≤ tt)) in
     let monday = date-at (on 2021 8 2) 738004 refl (number-by-rule 2021 8 2 (lit≤ tt)) in
@@ -55,7 +54,7 @@ pub record LastDay : Type 0 where
   pub none : adjustDate rule.None (on 9999 12 31) lastListed ≡ given (on 9999 12 31)
 
 pub last-day : LastDay
-unfolding leap lengthIn monthLength before isDate isDay weekdayOf ascendsFrom isTable listed isWeekend isBusiness firstOf nextFrom lastOf prevFrom nextDate prevDate modifiedDate adjusted adjustDate
+unfolding leap lengthIn monthLength daysBefore isDate isDay weekdayOf ascendsFrom isTable isListed isWeekend isBusiness firstOf nextFrom lastOf prevFrom nextDate prevDate modifiedDate adjusted adjustDate
 last-day =
     record {
       following = ap (movedFrom rule.Following (on 9999 12 31) lastListed) last-number;
@@ -73,7 +72,7 @@ pub record Order : Type 0 where
   pub first-day : adjustDate rule.Preceding (on 1 1 1) (1 ∷ []) ≡ refused 1
 
 pub order : Order
-unfolding leap lengthIn monthLength before isDate isDay weekdayOf ascendsFrom isTable listed isWeekend isBusiness lastOf prevFrom prevDate adjusted adjustDate
+unfolding leap lengthIn monthLength daysBefore isDate isDay weekdayOf ascendsFrom isTable isListed isWeekend isBusiness lastOf prevFrom prevDate adjusted adjustDate
 order =
     record {
       date-first = refl;

@@ -1,13 +1,12 @@
 -- The date of a day near one whose date is known: in the same month only the day's number differs.
--- Assumes nothing.
 use Prim.Native.Nat.{ℕ, _+_, _-_, _≤_, _<_}
 use mathlib.Core.Path.{_≡_, sym, _∙_, ap}
 use mathlib.Core.Bool.{true}
 use native.Mathlib.Omega.{arith}
-use Rattle.gregorian.specs.Gregorian.{monthLength}
-use Rattle.calendar.specs.Dates.{isDate, dayNumber, theDate}
-use Rattle.calendar.specs.declared.Date.{Date}
-use Rattle.calendar.proofs.Dates.{IsDate, date-yes, date-found}
+use Rattle.calendar.specs.gregorian.Gregorian.{monthLength}
+use Rattle.calendar.specs.dates.Dates.{isDate, dayNumber, theDate}
+use Rattle.calendar.specs.declared.dates.Date.{Date}
+use Rattle.calendar.proofs.dates.Dates.{IsDate, date-yes, date-found}
 
 -- the day d of a date's month
 abbrev pub inMonth : Date → ℕ → Date

@@ -1,23 +1,22 @@
 -- No second answer satisfies the entry point's promise; and a refusal's number is never 0.
--- Assumes nothing.
 use Prim.Native.Nat.{ℕ}
 use mathlib.Core.Path.{_≡_, sym, _∙_}
 use mathlib.Core.List.{List}
 use native.Mathlib.Omega.{arith}
 use lib.Dec.{eqb}
-use Rattle.paper.specs.Outcome.{given, Numbered, pick}
-use Rattle.paper.proofs.Outcomes.{unless-numbered, then-numbered, pick-numbered}
-use Rattle.calendar.specs.Dates.{isDate, dayNumber}
-use Rattle.calendar.specs.Answers.{dateOf}
-use Rattle.calendar.specs.declared.Date.{Date}
-use Rattle.calendar.specs.declared.DateAnswer.{DateAnswer}
-use Rattle.calendar.proofs.OneOutcome.{same-date-answer, date-of-numbered}
-use Rattle.holidays.specs.Table.{isTable}
-use Rattle.holidays.specs.Business.{isBusiness, nextFrom, prevFrom}
+use Rattle.outcome.specs.Outcome.{given, Numbered, pick}
+use Rattle.outcome.proofs.Outcomes.{unless-numbered, then-numbered, pick-numbered}
+use Rattle.calendar.specs.dates.Dates.{isDate, dayNumber}
+use Rattle.calendar.specs.serial.Answers.{dateOf}
+use Rattle.calendar.specs.declared.dates.Date.{Date}
+use Rattle.calendar.specs.declared.serial.DateAnswer.{DateAnswer}
+use Rattle.calendar.proofs.dates.OneOutcome.{same-date-answer, date-of-numbered}
+use Rattle.business_days.specs.table.Table.{isTable}
+use Rattle.business_days.specs.table.Business.{isBusiness, nextFrom, prevFrom}
 use Rattle.day_adjust.specs.Adjustment.{nextDate, prevDate, modifiedDate, movedDate, adjusted, adjustDate, AdjustPromise}
 use Rattle.day_adjust.specs.declared.DayAdjust.{DayAdjust}
 use Rattle.day_adjust.specs.declared.DayAdjust.the-variants as rule
-use Rattle.holidays.proofs.OneOutcome.{next-from-numbered, prev-from-numbered}
+use Rattle.business_days.proofs.days.OneOutcome.{next-from-numbered, prev-from-numbered}
 
 pub one-adjust : (r : DayAdjust) (t : Date) (table : List ℕ) (a b : DateAnswer) → AdjustPromise r t table a → AdjustPromise r t table b → a ≡ b
 one-adjust r t table a b p q = same-date-answer a b (p ∙ sym q)

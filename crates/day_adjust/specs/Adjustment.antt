@@ -1,16 +1,15 @@
 -- Day adjustment: none, following, preceding and modified.
--- Assumes nothing.
 use Prim.Native.Nat.{ℕ}
 use mathlib.Core.Path.{_≡_}
 use mathlib.Core.List.{List}
 use lib.Dec.{eqb}
-use Rattle.paper.specs.Outcome.{Outcome, given, unless, andThen, pick}
-use Rattle.calendar.specs.Dates.{isDate, dayNumber}
-use Rattle.calendar.specs.Answers.{dateOutcome, dateOf}
-use Rattle.calendar.specs.declared.Date.{Date}
-use Rattle.calendar.specs.declared.DateAnswer.{DateAnswer}
-use Rattle.holidays.specs.Table.{isTable}
-use Rattle.holidays.specs.Business.{isBusiness, nextFrom, prevFrom}
+use Rattle.outcome.specs.Outcome.{Outcome, given, unless, andThen, pick}
+use Rattle.calendar.specs.dates.Dates.{isDate, dayNumber}
+use Rattle.calendar.specs.serial.Answers.{dateOutcome, dateOf}
+use Rattle.calendar.specs.declared.dates.Date.{Date}
+use Rattle.calendar.specs.declared.serial.DateAnswer.{DateAnswer}
+use Rattle.business_days.specs.table.Table.{isTable}
+use Rattle.business_days.specs.table.Business.{isBusiness, nextFrom, prevFrom}
 use Rattle.day_adjust.specs.declared.DayAdjust.{DayAdjust}
 use Rattle.day_adjust.specs.declared.DayAdjust.the-variants as rule
 

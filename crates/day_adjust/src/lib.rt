@@ -3,13 +3,14 @@ ghost use mathlib.Core.Path.{_≡_};
 ghost use mathlib.Core.Bool.{true, _||_};
 ghost use Prim.Native.Nat.{_≤_};
 ghost use lib.Dec.{eqb, leb};
-ghost use Rattle.paper.specs.Outcome.{given, andThen, pick};
-ghost use Rattle.gregorian.specs.Gregorian.{monthLength};
-ghost use Rattle.calendar.specs.Dates.{isDate, dayNumber, theDate};
-ghost use Rattle.calendar.specs.Answers.{dateOutcome};
-ghost use Rattle.holidays.specs.Table.{ascending};
-ghost use Rattle.holidays.specs.Search.{Splits};
+ghost use Rattle.outcome.specs.Outcome.{given, andThen, pick};
+ghost use Rattle.calendar.specs.gregorian.Gregorian.{monthLength};
+ghost use Rattle.calendar.specs.dates.Dates.{isDate, dayNumber, theDate};
+ghost use Rattle.calendar.specs.serial.Answers.{dateOutcome};
+ghost use Rattle.business_days.specs.table.Table.{ascending};
+ghost use Rattle.business_days.specs.table.Search.{IsLowerBound};
 ghost use Rattle.day_adjust.specs.Adjustment.{nextDate, prevDate, movedDate, adjusted, AdjustPromise};
+use business_days::Place;
 use calendar::Date;
 use calendar::DateAnswer;
 use calendar::DayAnswer;
@@ -29,10 +30,11 @@ fn reaches(year: u32, month: u32, day: u32) -> bool
     if day <= 28 {
         return true;
     }
-    day <= gregorian::length_of_month(year, month)
+    day <= calendar::length_of_month(year, month)
 }
 
-// The date of a day near one whose date is known: within its month only the day's number differs, which takes no division.
+// The date of a day near one whose date is known: within its month only the day's number differs,
+// which takes no division.
 fn date_near(t: Date, n: u32, at: u32) -> Date
     requires { ⌜ (isDate t ≡ true) × (n ≡ dayNumber t) × (1 ≤ at) × (at ≤ 3652059) ⌝ }
     ensures { λ r. ⌜ r ≡ theDate at ⌝ }
@@ -46,7 +48,7 @@ fn date_near(t: Date, n: u32, at: u32) -> Date
                 day: t.day - back,
             };
         }
-        return march_years::date_on(at);
+        return calendar::date_of_day(at);
     }
     let day = t.day + (at - n);
     if reaches(t.year, t.month, day) {
@@ -56,32 +58,33 @@ fn date_near(t: Date, n: u32, at: u32) -> Date
             day,
         };
     }
-    march_years::date_on(at)
+    calendar::date_of_day(at)
 }
 
 fn next_date(t: Date, n: u32, table: &[u32], i: usize) -> DateAnswer
-    requires { ⌜ (isDate t ≡ true) × (n ≡ dayNumber t) × (ascending (now table) ≡ true) × (Splits (now table) n i) ⌝ }
+    requires { ⌜ (isDate t ≡ true) × (n ≡ dayNumber t) × (ascending (now table) ≡ true) × (IsLowerBound (now table) n i) ⌝ }
     ensures { λ r. ⌜ dateOutcome r ≡ nextDate (now (table .entry)) n ⌝ }
 {
-    match business_walks::next_at(n, table, i) {
+    match business_days::next_at(n, table, i) {
         DayAnswer::Day(d) => DateAnswer::Date(date_near(t, n, d.0)),
         DayAnswer::Refused(k) => DateAnswer::Refused(k),
     }
 }
 
 fn prev_date(t: Date, n: u32, table: &[u32], i: usize) -> DateAnswer
-    requires { ⌜ (isDate t ≡ true) × (n ≡ dayNumber t) × (ascending (now table) ≡ true) × (Splits (now table) n i) ⌝ }
+    requires { ⌜ (isDate t ≡ true) × (n ≡ dayNumber t) × (ascending (now table) ≡ true) × (IsLowerBound (now table) n i) ⌝ }
     ensures { λ r. ⌜ dateOutcome r ≡ prevDate (now (table .entry)) n ⌝ }
 {
-    match business_walks::prev_at(n, table, i) {
+    match business_days::prev_at(n, table, i) {
         DayAnswer::Day(d) => DateAnswer::Date(date_near(t, n, d.0)),
         DayAnswer::Refused(k) => DateAnswer::Refused(k),
     }
 }
 
-// Following and modified look ahead first. Modified turns back where the month differs, and only compares its number, as finql does.
+// Following and modified look ahead first. Modified turns back where the month differs, and only
+// compares its number, as finql does.
 fn ahead_date(across: bool, t: Date, n: u32, table: &[u32], i: usize) -> DateAnswer
-    requires { ⌜ (isDate t ≡ true) × (n ≡ dayNumber t) × (ascending (now table) ≡ true) × (Splits (now table) n i) ⌝ }
+    requires { ⌜ (isDate t ≡ true) × (n ≡ dayNumber t) × (ascending (now table) ≡ true) × (IsLowerBound (now table) n i) ⌝ }
     ensures { λ r. ⌜ dateOutcome r ≡ andThen (nextDate (now (table .entry)) n) (λ u. pick (across || eqb (u .month) (t .month)) (given u) (prevDate (now (table .entry)) n)) ⌝ }
 {
     match next_date(t, n, table, i) {
@@ -100,7 +103,7 @@ fn ahead_date(across: bool, t: Date, n: u32, table: &[u32], i: usize) -> DateAns
 
 // Where a day that is no business day moves.
 fn moved_date(rule: DayAdjust, t: Date, n: u32, table: &[u32], i: usize) -> DateAnswer
-    requires { ⌜ (isDate t ≡ true) × (n ≡ dayNumber t) × (ascending (now table) ≡ true) × (Splits (now table) n i) ⌝ }
+    requires { ⌜ (isDate t ≡ true) × (n ≡ dayNumber t) × (ascending (now table) ≡ true) × (IsLowerBound (now table) n i) ⌝ }
     ensures { λ r. ⌜ dateOutcome r ≡ movedDate rule t n (now (table .entry)) ⌝ }
 {
     match rule {
@@ -111,31 +114,36 @@ fn moved_date(rule: DayAdjust, t: Date, n: u32, table: &[u32], i: usize) -> Date
     }
 }
 
-// Inner: of a date, its serial day, that day's place among the holidays, and holidays already judged, so that a rollout judges its table once and searches it once.
+// Inner: the adjusted date; asks for a date that exists, its day and its place among the holidays.
 pub fn adjust_at(rule: DayAdjust, t: Date, n: u32, table: &[u32], i: usize) -> DateAnswer
-    requires { ⌜ (isDate t ≡ true) × (n ≡ dayNumber t) × (ascending (now table) ≡ true) × (Splits (now table) n i) ⌝ }
+    requires { ⌜ (isDate t ≡ true) × (n ≡ dayNumber t) × (ascending (now table) ≡ true) × (IsLowerBound (now table) n i) ⌝ }
     ensures { λ r. ⌜ dateOutcome r ≡ adjusted rule t (now (table .entry)) ⌝ }
 {
-    if business_walks::business_at(n, table, i) {
+    // A rollout judges its table once and searches it once.
+    if business_days::business_at(n, table, i) {
         return DateAnswer::Date(t);
     }
     moved_date(rule, t, n, table, i)
 }
 
-// The last steps are those of `adjust_at` in words of its own: most dates stay, and then no call is made.
+// The date that a date is adjusted to by one of four rules; refused 1, 13 (under none too), then 1
+// for the result.
 pub fn adjust_date(rule: DayAdjust, t: Date, table: &[u32]) -> DateAnswer
     ensures { λ r. ⌜ AdjustPromise rule t (now (table .entry)) r ⌝ }
 {
+    // The last steps are those of `adjust_at`, written out: most dates stay, and then no call is
+    // made.
     if !calendar::is_date(t) {
-        return DateAnswer::Refused(paper::INVALID_DATE);
+        return DateAnswer::Refused(outcome::INVALID_DATE);
     }
-    let n = march_years::number_of(t);
-    let i = holiday_tables::place_in(table, n);
-    if holidays::NOWHERE <= i {
-        return DateAnswer::Refused(paper::BAD_HOLIDAY_TABLE);
+    let n = calendar::day_of_date(t);
+    match business_days::place_in(table, n) {
+        Place::At(i) => {
+            if business_days::business_at(n, table, i) {
+                return DateAnswer::Date(t);
+            }
+            moved_date(rule, t, n, table, i)
+        }
+        Place::NoTable => DateAnswer::Refused(outcome::BAD_HOLIDAY_TABLE),
     }
-    if business_walks::business_at(n, table, i) {
-        return DateAnswer::Date(t);
-    }
-    moved_date(rule, t, n, table, i)
 }

@@ -1,2 +1,1 @@
-pub mod Conventions
-pub mod Whole
+pub mod conventions

@@ -1,142 +1,18 @@
-// Day count conventions: the six rules of a year fraction; here ICMA, and the refusal that 30/360 and 30E/360 share.
-ghost use mathlib.Core.Path.{_≡_};
-ghost use mathlib.Core.Bool.{true, not};
-ghost use Rattle.paper.specs.Outcome.{given, unless};
-ghost use Prim.Native.Nat.{_≤_};
-ghost use Rattle.calendar.specs.Dates.{isDate, dayNumber};
-ghost use Rattle.day_fraction.specs.Fractions.{Span, impossible};
-ghost use Rattle.day_fraction.specs.declared.SimpleRule.the-variants as simple;
-ghost use Rattle.day_count_conv.specs.Whole.{wholePeriod};
-ghost use Rattle.day_count_conv.specs.Conventions.{fractionOutcome, inBits, partAdded, partsBits, walkedFraction, frequentFraction, icmaFraction, rollDateExists};
-use calendar::Date;
-use icma::Broken;
-use icma::Parts;
-use icma::PartsAnswer;
-use time_period::FrequencyAnswer;
-use time_period::TimePeriod;
+// The year fraction by six conventions: its refusals, its f64, and how far off it may be.
+pub mod conventions;
+pub mod fractions;
+pub mod judged;
 
-// The packed codes 0 to 5 stand in this order.
-pub enum DayCountConv {
-    Act365,
-    Act360,
-    Act365l,
-    D30_360,
-    D30E360,
-    ActActICMA,
-}
+pub use conventions::DayCountConv;
+pub use conventions::NoteTerms;
+pub use conventions::RollDate;
+pub use conventions::RollPeriod;
+pub use conventions::YearFraction;
+pub use fractions::year_fraction;
 
-pub enum YearFraction {
-    Fraction(f64),
-    Refused(u32),
-}
-
-pub enum RollDate {
-    Date(Date),
-    Absent,
-}
-
-pub enum RollPeriod {
-    Period(TimePeriod),
-    Absent,
-}
-
-// What only some rules ask for; the others ignore it.
-pub struct Extras {
-    pub roll: RollDate,
-    pub period: RollPeriod,
-}
-
-pub enum ConventionAnswer {
-    Convention(DayCountConv),
-    Refused(u32),
-}
-
-// Inner: a fraction by 30/360 or 30E/360, unless it is 0 on two different dates.
-pub fn possible(start: Date, end: Date, fraction: f64) -> YearFraction
-    requires { ⌜ Span start end ⌝ }
-    ensures { λ r. ⌜ fractionOutcome r ≡ unless (not (impossible simple.D30_360 start end)) 9 (given fraction) ⌝ }
-    ensures { λ r. ⌜ fractionOutcome r ≡ unless (not (impossible simple.D30E360 start end)) 9 (given fraction) ⌝ }
-{
-    if day_fraction::is_overnight(start, end) {
-        return YearFraction::Refused(paper::IMPOSSIBLE_360);
-    }
-    YearFraction::Fraction(fraction)
-}
-
-// A broken part added to the fraction so far.
-fn part_added(yf: f64, part: Broken) -> f64
-    ensures { λ r. ⌜ r ≡ partAdded yf part ⌝ }
-{
-    match part {
-        Broken::Nothing => yf,
-        Broken::Part(days, length) => yf + days as f64 / length as f64,
-    }
-}
-
-// The Rust's operations in its order.
-fn parts_bits(frequency: u32, parts: Parts) -> f64
-    ensures { λ r. ⌜ r ≡ partsBits frequency parts ⌝ }
-{
-    match parts {
-        Parts::Short(days, length) => days as f64 / (length as f64 * frequency as f64),
-        Parts::Long(first, last, count) => {
-            let yf = part_added(part_added(0.0, first), last);
-            (yf + count as f64) / frequency as f64
-        }
-    }
-}
-
-fn walked(p: TimePeriod, start: Date, end: Date, roll: Date, frequency: u32) -> YearFraction
-    requires { ⌜ (isDate start ≡ true) × (isDate end ≡ true) × (dayNumber start ≤ dayNumber end) × (isDate roll ≡ true) ⌝ }
-    ensures { λ r. ⌜ fractionOutcome r ≡ walkedFraction inBits p start end roll frequency ⌝ }
-{
-    if p.num < 1 {
-        return YearFraction::Refused(paper::PERIOD_BELOW_ONE);
-    }
-    match icma::icma_parts(p, start, end, roll) {
-        PartsAnswer::Parts(parts) => YearFraction::Fraction(parts_bits(frequency, parts)),
-        PartsAnswer::Refused(k) => YearFraction::Refused(k),
-    }
-}
-
-fn frequent(p: TimePeriod, start: Date, end: Date, roll: Date) -> YearFraction
-    requires { ⌜ (isDate start ≡ true) × (isDate end ≡ true) × (dayNumber start ≤ dayNumber end) × (isDate roll ≡ true) ⌝ }
-    ensures { λ r. ⌜ fractionOutcome r ≡ frequentFraction inBits p start end roll ⌝ }
-{
-    match period_frequency::frequency(p) {
-        FrequencyAnswer::Frequency(f) => walked(p, start, end, roll, f),
-        FrequencyAnswer::Refused(k) => YearFraction::Refused(k),
-    }
-}
-
-// Inner: by ICMA alone, of dates already judged.
-pub fn act_act_icma(x: Extras, start: Date, end: Date) -> YearFraction
-    requires { ⌜ (isDate start ≡ true) × (isDate end ≡ true) × (dayNumber start ≤ dayNumber end) × (rollDateExists (x .roll) ≡ true) ⌝ }
-    ensures { λ r. ⌜ fractionOutcome r ≡ icmaFraction inBits (x .roll) (x .period) start end ⌝ }
-{
-    let roll_date = x.roll;
-    let time_period = x.period;
-    match roll_date {
-        RollDate::Date(roll) => match time_period {
-            RollPeriod::Period(p) => frequent(p, start, end, roll),
-            RollPeriod::Absent => YearFraction::Refused(paper::ICMA_MISSING_TIME_PERIOD),
-        },
-        RollDate::Absent => YearFraction::Refused(paper::ICMA_MISSING_ROLL_DATE),
-    }
-}
-
-// Inner: one whole period takes no walk.
-pub fn whole_period(p: TimePeriod) -> YearFraction
-    ensures { λ r. ⌜ fractionOutcome r ≡ wholePeriod p ⌝ }
-{
-    match period_frequency::frequency(p) {
-        FrequencyAnswer::Frequency(f) => {
-            if p.num < 1 {
-                return YearFraction::Refused(paper::PERIOD_BELOW_ONE);
-            }
-            let whole = Parts::Long(Broken::Nothing, Broken::Nothing, 1);
-            YearFraction::Fraction(parts_bits(f, whole))
-        }
-        FrequencyAnswer::Refused(k) => YearFraction::Refused(k),
-    }
-}
+// Inner: for the crates of the register, which have judged what these ask for.
+pub use conventions::no_terms;
+pub use conventions::rolled_from;
+pub use fractions::fraction_between;
+pub use judged::fraction_judged;
+pub use judged::fraction_of_period;

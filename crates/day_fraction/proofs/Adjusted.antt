@@ -1,12 +1,11 @@
 -- The adjusted days of 30/360 and of 30E/360, and what both have in common.
--- Assumes nothing.
 use mathlib.Core.Path.{_≡_, refl}
 use Prim.Native.Nat.{ℕ, _+_, _≤_, _<_, min}
 use mathlib.Core.Bool.{Bool, true, false, _||_}
 use native.Mathlib.Omega.{arith}
 use lib.Dec.{eqb}
 use borrow.Author.Tests.{eqb-true, eqb-false}
-use Rattle.paper.specs.Outcome.{pick}
+use Rattle.outcome.specs.Outcome.{pick}
 use Rattle.day_fraction.specs.Fractions.{cut, endDay}
 
 -- two days of a month, s and e, adjusted to a and b

@@ -1,5 +1,4 @@
 -- Every rule's `f64` is within 1 / 2 ^ 38 of its exact value, on every two dates.
--- Assumes nothing.
 use mathlib.Core.Path.{_≡_, refl}
 use Prim.Native.Nat.{ℕ, _+_, _*_, _^_, _≤_, _<_, zero-le}
 use native.Mathlib.Nat.{mul-pos}
@@ -7,19 +6,19 @@ use native.Mathlib.Omega.{arith}
 use lib.IntN.{ℤ, pos, natAbs}
 use lib.Dec.{lit<, lit≤}
 use lib.Ieee.{Float}
-use Rattle.gregorian.specs.Gregorian.{yearLength}
-use Rattle.gregorian.proofs.Months.{year-most}
-use Rattle.calendar.specs.Dates.{dayNumber}
-use Rattle.calendar.specs.declared.Date.{Date}
-use Rattle.calendar.proofs.Dates.{IsDate, number-from, number-to}
+use Rattle.calendar.specs.gregorian.Gregorian.{yearLength}
+use Rattle.calendar.proofs.gregorian.Months.{year-most}
+use Rattle.calendar.specs.dates.Dates.{dayNumber}
+use Rattle.calendar.specs.declared.dates.Date.{Date}
+use Rattle.calendar.proofs.dates.Dates.{IsDate, number-from, number-to}
 use Rattle.rounding.proofs.Algebra.{ring}
 use Rattle.rounding.proofs.Integers.{plus, minus, Diff, of-int, diff-add, diff-sub, diff-scale, diff-lscale, size-is}
 use Rattle.rounding.proofs.Near.{Near, near-int, near-add, near-sub, near-same, near-signed, near-weaken}
 use Rattle.rounding.proofs.Quotient.{near-div}
 use Rattle.rounding.proofs.CloseLaws.{near-close}
-use Rattle.rounding.proofs.Gap.{abs-gap}
+use Rattle.rounding.proofs.Difference.{abs-gap}
 use Rattle.day_fraction.specs.Exact.{Exact, CloseTo, difference}
-use Rattle.day_fraction.specs.Fractions.{exactFraction, bits, over, thirties, thirtiesBits, leapYears, leapBits, sinceJanuary, days, years, months, cut, endDay}
+use Rattle.day_fraction.specs.Fractions.{exactFraction, bits, quotient, thirties, thirtiesBits, leapYears, leapBits, sinceJanuary, days, years, months, cut, endDay}
 use Rattle.day_fraction.specs.declared.SimpleRule.{SimpleRule}
 use Rattle.day_fraction.specs.declared.SimpleRule.the-variants.{Act365, Act360, Act365l, D30_360, D30E360}
 use Rattle.day_fraction.proofs.Spans.{since-below, day-most}
@@ -39,7 +38,7 @@ lands {x} {a} {b} {c} {k} {e} {A} {B} q X D P same h l =
     near-weaken (near-signed (near-same X A B (q .den) P same) D (q .den) refl) 10150 (2 ^ 62) h l
 
 -- days / base
-act-near : (z : ℤ) (base : ℕ) → natAbs z ≤ 3652058 → 360 ≤ base → base ≤ 365 → NearTo (over z base) (record { num = z; den = base })
+act-near : (z : ℤ) (base : ℕ) → natAbs z ≤ 3652058 → 360 ≤ base → base ≤ 365 → NearTo (quotient z base) (record { num = z; den = base })
 act-near z base h l u =
     lands (record { num = z; den = base })
     (near-div (near-int z 3652058 (omega (arith, size-is z)) (lit< tt)) base 10150 0 14 (omega arith) (omega arith) (omega arith) zero-le (lit≤ tt) (omega arith) (lit< tt))

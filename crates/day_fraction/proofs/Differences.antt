@@ -1,5 +1,5 @@
--- A signed difference of two naturals is found where it is not negative, and is 0 exactly where the two are equal.
--- Assumes nothing.
+-- A signed difference of two naturals is found where it is not negative, and is 0 exactly where the
+-- two are equal.
 use mathlib.Core.Path.{_≡_, refl, _∙_, ap}
 use Prim.Native.Nat.{ℕ, zero, suc, _+_, _-_, _≤_}
 use mathlib.Core.Bool.{false}

@@ -1,5 +1,5 @@
--- The desk card's fractions, and cases that a trainee gets wrong, as theorems about the definitions; each f64 by its pattern.
--- Assumes nothing.
+-- The desk card's fractions, and cases that a trainee gets wrong, as theorems about the
+-- definitions; each f64 by its pattern.
 use Prim.Native.Nat.{ℕ, _+_, _-_, _*_, _^_}
 use native.Mathlib.Nat.{not-le-of-lt}
 use mathlib.Core.Path.{_≡_, refl, ap₂, subst}
@@ -8,15 +8,15 @@ use lib.IntN.{ℤ, pos}
 use lib.Dec.{lit<}
 use lib.Ieee.{Float, binary64, add, sub, div, ofInt, ofBits}
 use Rattle.rounding.specs.Close.{Close}
-use Rattle.gregorian.specs.Gregorian.{leap, lengthIn, monthLength, yearLength, before, beforeMonth}
-use Rattle.calendar.specs.Dates.{isDate, isSame}
-use Rattle.calendar.proofs.Dates.{date-yes}
-use Rattle.calendar.proofs.Examples.{first-number, last-number}
+use Rattle.calendar.specs.gregorian.Gregorian.{leap, lengthIn, monthLength, yearLength, daysBefore, beforeMonth}
+use Rattle.calendar.specs.dates.Dates.{isDate, isSame}
+use Rattle.calendar.proofs.dates.Dates.{date-yes}
+use Rattle.calendar.proofs.dates.Examples.{first-number, last-number}
 use Rattle.day_fraction.specs.Exact.{Exact, difference}
-use Rattle.day_fraction.specs.Fractions.{exactFraction, bits, impossible, over, leapYears, leapBits, sinceJanuary}
+use Rattle.day_fraction.specs.Fractions.{exactFraction, bits, impossible, quotient, leapYears, leapBits, sinceJanuary}
 use Rattle.day_fraction.specs.declared.SimpleRule.the-variants.{Act365, Act360, Act365l, D30_360, D30E360}
 use Rattle.day_fraction.proofs.Spans.{since-is}
-use Rattle.calendar.proofs.Examples.{on}
+use Rattle.calendar.proofs.dates.Examples.{on}
 
 abbrev pub fraction : ℤ → ℕ → Exact
 fraction n d = record { num = n; den = d }
@@ -42,7 +42,7 @@ pub record Card : Type 0 where
   pub j-bits : bits Act365l (on 2019 7 1) (on 2020 7 1) ≡ pattern 0x3ff0_05a4_4133_587b
 
 pub card : Card
-unfolding leap lengthIn monthLength yearLength before isDate isSame exactFraction bits impossible add sub div ofInt ofBits
+unfolding leap lengthIn monthLength yearLength daysBefore isDate isSame exactFraction bits impossible add sub div ofInt ofBits
 card =
     let s = since 2019 7 1 refl in
     let e = since 2020 7 1 refl in
@@ -73,15 +73,15 @@ pub record Whole : Type 0 where
   pub thirty-E-bits : bits D30E360 (on 1 1 1) (on 9999 12 31) ≡ pattern 0x40c3_877f_a4fa_4fa5
 
 pub whole-calendar : Whole
-unfolding leap lengthIn monthLength yearLength before isDate exactFraction bits add sub div ofInt ofBits
+unfolding leap lengthIn monthLength yearLength daysBefore isDate exactFraction bits add sub div ofInt ofBits
 whole-calendar =
     let s = since 1 1 1 refl in
     let e = since 9999 12 31 refl in
     record {
       act-365 = ap₂ (λ (a b : ℕ). fraction (difference b a) 365) first-number last-number;
-      act-365-bits = ap₂ (λ (a b : ℕ). over (difference b a) 365) first-number last-number;
+      act-365-bits = ap₂ (λ (a b : ℕ). quotient (difference b a) 365) first-number last-number;
       act-360 = ap₂ (λ (a b : ℕ). fraction (difference b a) 360) first-number last-number;
-      act-360-bits = ap₂ (λ (a b : ℕ). over (difference b a) 360) first-number last-number;
+      act-360-bits = ap₂ (λ (a b : ℕ). quotient (difference b a) 360) first-number last-number;
       act-365-leap = ap₂ (λ (a b : ℕ). leapYears (pos 9998) b 365 a 365) s e;
       act-365-leap-bits = ap₂ (λ (a b : ℕ). leapBits (pos 9998) b 365 a 365) s e;
       thirty = refl;
@@ -117,7 +117,7 @@ slips =
 
 -- two sums may cost almost half of 1 / 2 ^ 38, so no bound of 1 / 2 ^ 40 holds of every rule
 pub not-closer : Close (2 ^ 40) (bits Act365l (on 400 6 19) (on 9996 7 30)) (exactFraction Act365l (on 400 6 19) (on 9996 7 30) .num) (exactFraction Act365l (on 400 6 19) (on 9996 7 30) .den) → ⊥
-unfolding leap lengthIn monthLength yearLength before isDate exactFraction bits add sub div ofInt
+unfolding leap lengthIn monthLength yearLength daysBefore isDate exactFraction bits add sub div ofInt
 not-closer c =
     let near : ℕ → ℕ → Type 0 = λ a b. Close (2 ^ 40) (leapBits (pos 9596) b 366 a 366) (leapYears (pos 9596) b 366 a 366 .num) (366 * 366) in
     let d = subst (λ (n : ℕ). near n 211) (since 400 6 19 refl) (subst (near (sinceJanuary (on 400 6 19))) (since 9996 7 30 refl) c) in

@@ -1,5 +1,5 @@
--- Refusal 9: 30/360 and 30E/360 are 0 on two different dates exactly from the 30th to the 31st of one month, and exactly there the `f64` is.
--- Assumes nothing.
+-- Refusal 9: 30/360 and 30E/360 are 0 on two different dates exactly from the 30th to the 31st of
+-- one month, and exactly there the `f64` is.
 use mathlib.Core.Path.{_≡_, refl, sym, _∙_, ap}
 use Prim.Native.Nat.{ℕ, _^_, _≤_, _<_}
 use mathlib.Core.Bool.{Bool, true, false, not, true≢false}
@@ -8,10 +8,10 @@ use native.Mathlib.Decide.{decLt}
 use borrow.Author.Tests.{eq-eqb, ne-eqb}
 use lib.IntN.{ℤ, pos, natAbs}
 use lib.Ieee.{binary64, add, div, ofInt, ofBits, eq}
-use Rattle.paper.specs.Outcome.{both}
-use Rattle.calendar.specs.Dates.{dayNumber, isSame}
-use Rattle.calendar.specs.declared.Date.{Date}
-use Rattle.calendar.proofs.Dates.{IsDate, date-yes}
+use Rattle.outcome.specs.Outcome.{both}
+use Rattle.calendar.specs.dates.Dates.{dayNumber, isSame}
+use Rattle.calendar.specs.declared.dates.Date.{Date}
+use Rattle.calendar.proofs.dates.Dates.{IsDate, date-yes}
 use Rattle.rounding.proofs.Zero.{close-not-zero}
 use Rattle.day_fraction.specs.Exact.{Exact, CloseTo, difference, isZero}
 use Rattle.day_fraction.specs.Fractions.{Span, exactFraction, bits, impossible, countsThirties, thirties, thirtiesBits, years, months, cut, endDay}
@@ -117,7 +117,7 @@ module _ (s e : Date) (h : IsDate s) (k : IsDate e) (l : dayNumber s ≤ dayNumb
   zero-f64 D30_360 r = zero-too (cut (s .day)) (endDay (s .day) (e .day)) (dates-30 s e h k) (within s e h k D30_360)
   zero-f64 D30E360 r = zero-too (cut (s .day)) (cut (e .day)) (dates-30E s e h k) (within s e h k D30E360)
 
-  -- the Rust's test for its refusal, yf == 0. && start != end, is the paper's
+  -- finql's test for its refusal, yf == 0. && start != end, is the paper's
   pub as-the-rust : (rule : SimpleRule) → countsThirties rule ≡ true → both (eq (bits rule s e) (ofBits binary64 0)) (not (isSame s e)) ≡ impossible rule s e
   unfolding impossible
   as-the-rust rule r = rw (zero-f64 rule r, r)

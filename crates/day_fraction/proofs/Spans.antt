@@ -1,14 +1,14 @@
--- Two dates of which the first is not after the second: how their years, months and days stand to each other.
--- Assumes nothing.
+-- Two dates of which the first is not after the second: how their years, months and days stand to
+-- each other.
 use mathlib.Core.Path.{_≡_, ap}
 use Prim.Native.Nat.{_+_, _-_, _≤_, _<_}
 use native.Mathlib.Omega.{arith}
-use Rattle.gregorian.specs.Gregorian.{yearLength, beforeYear, beforeMonth}
-use Rattle.gregorian.proofs.Months.{before-first, at-most}
-use Rattle.calendar.specs.Dates.{dayNumber, monthIndex}
-use Rattle.calendar.specs.declared.Date.{Date}
-use Rattle.calendar.proofs.Dates.{IsDate, within-year}
-use Rattle.calendar.proofs.Order.{same-month, month-order}
+use Rattle.calendar.specs.gregorian.Gregorian.{yearLength, beforeYear, beforeMonth}
+use Rattle.calendar.proofs.gregorian.Months.{before-first, at-most}
+use Rattle.calendar.specs.dates.Dates.{dayNumber, monthIndex}
+use Rattle.calendar.specs.declared.dates.Date.{Date}
+use Rattle.calendar.proofs.dates.Dates.{IsDate, within-year}
+use Rattle.calendar.proofs.dates.Order.{same-month, month-order}
 use Rattle.day_fraction.specs.Fractions.{sinceJanuary}
 
 -- the days since 1 January are those before the month and those before the day

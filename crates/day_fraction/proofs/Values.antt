@@ -1,5 +1,5 @@
--- Every exact value is not negative and at most 10150 where the start is not after the end, and 0 where the two are one date.
--- Assumes nothing.
+-- Every exact value is not negative and at most 10150 where the start is not after the end, and 0
+-- where the two are one date.
 use mathlib.Core.Path.{_≡_, refl, sym, _∙_, ap, subst}
 use Prim.Native.Nat.{ℕ, _+_, _*_, _^_, _≤_, _<_}
 use native.Mathlib.Nat.{le-of-lt, mul-le-mul-right}
@@ -7,11 +7,11 @@ use native.Mathlib.Omega.{arith}
 use native.Mathlib.Decide.{decLt}
 use lib.IntN.{ℤ, pos}
 use lib.Ieee.{Float}
-use Rattle.gregorian.specs.Gregorian.{yearLength}
-use Rattle.calendar.specs.Dates.{dayNumber, monthIndex}
-use Rattle.calendar.specs.declared.Date.{Date}
-use Rattle.calendar.proofs.Dates.{IsDate}
-use Rattle.calendar.proofs.Order.{one-month}
+use Rattle.calendar.specs.gregorian.Gregorian.{yearLength}
+use Rattle.calendar.specs.dates.Dates.{dayNumber, monthIndex}
+use Rattle.calendar.specs.declared.dates.Date.{Date}
+use Rattle.calendar.proofs.dates.Dates.{IsDate}
+use Rattle.calendar.proofs.dates.Order.{one-month}
 use Rattle.rounding.proofs.Integers.{plus, minus, Diff, of-int, diff-add, diff-sub, diff-scale, diff-lscale}
 use Rattle.rounding.proofs.Near.{Near}
 use Rattle.day_fraction.specs.Exact.{Exact, difference}

@@ -1,10 +1,10 @@
--- The `f64` operations as the code writes them, with each literal by its pattern, are those of the definitions.
--- Assumes nothing.
+-- The `f64` operations as the code writes them, with each literal by its pattern, are those of the
+-- definitions.
 use Prim.Native.Nat.{ℕ}
 use mathlib.Core.Path.{_≡_, refl, ap₂}
 use lib.IntN.{ℤ, pos}
 use lib.Ieee.{Float, binary64, add, div, ofInt, ofBits}
-use Rattle.day_fraction.specs.Fractions.{whole, over, thirtiesBits}
+use Rattle.day_fraction.specs.Fractions.{whole, quotient, thirtiesBits}
 
 pub lit0 : ofBits binary64 0 ≡ whole (pos 0)
 unfolding ofBits ofInt
@@ -31,7 +31,7 @@ unfolding ofBits ofInt
 lit366 = refl
 
 -- a whole number over a literal
-pub over-by : (n : ℕ) {x : Float} {y z : ℤ} → x ≡ whole (pos n) → y ≡ z → div binary64 (whole y) x ≡ over z n
+pub over-by : (n : ℕ) {x : Float} {y z : ℤ} → x ≡ whole (pos n) → y ≡ z → div binary64 (whole y) x ≡ quotient z n
 over-by n l e = ap₂ (λ (z : ℤ) (x : Float). div binary64 (whole z) x) e l
 
 pub thirties-written : (y m d : ℤ) {Y M D : Float} → Y ≡ whole y → M ≡ whole m → D ≡ whole d

@@ -1,5 +1,4 @@
 -- Exact values, as fractions of whole numbers, and how close an `f64` is to one.
--- Assumes nothing.
 use Prim.Native.Nat.{ℕ, zero, suc, _^_}
 use mathlib.Core.Bool.{Bool, true, false}
 use lib.IntN.{ℤ, pos, negsuc, _-ℤ_}

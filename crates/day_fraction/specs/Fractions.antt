@@ -1,15 +1,15 @@
--- Year fractions, exactly, by the five rules that need two dates alone; and the f64 of each, by the Rust's operations in its order.
--- Assumes nothing.
+-- Year fractions, exactly, by the five rules that need two dates alone; and the f64 of each, by
+-- finql's operations in its order.
 use Prim.Native.Nat.{ℕ, _-_, _*_, _≤_}
 use mathlib.Core.Path.{_≡_}
 use mathlib.Core.Bool.{Bool, true, false, not, _||_}
 use lib.Dec.{eqb}
 use lib.IntN.{ℤ, pos, _+ℤ_, _-ℤ_, _*ℤ_}
 use lib.Ieee.{Float, binary64, add, sub, div, ofInt}
-use Rattle.paper.specs.Outcome.{pick, both}
-use Rattle.gregorian.specs.Gregorian.{yearLength}
-use Rattle.calendar.specs.Dates.{isDate, dayNumber, isSame}
-use Rattle.calendar.specs.declared.Date.{Date}
+use Rattle.outcome.specs.Outcome.{pick, both}
+use Rattle.calendar.specs.gregorian.Gregorian.{yearLength}
+use Rattle.calendar.specs.dates.Dates.{isDate, dayNumber, isSame}
+use Rattle.calendar.specs.declared.dates.Date.{Date}
 use Rattle.day_fraction.specs.Exact.{Exact, difference, isZero}
 use Rattle.day_fraction.specs.declared.SimpleRule.{SimpleRule}
 use Rattle.day_fraction.specs.declared.SimpleRule.the-variants.{Act365, Act360, Act365l, D30_360, D30E360}
@@ -42,7 +42,8 @@ cut d = pick (eqb d 31) 30 d
 abbrev pub endDay : ℕ → ℕ → ℕ
 endDay s e = pick (eqb s 30 || eqb s 31) (cut e) e
 
--- D, the difference of the adjusted days. 30/360: start 31 becomes 30, and the end as above; 30E/360: both 31s become 30
+-- D, the difference of the adjusted days. 30/360: start 31 becomes 30, and the end as above;
+-- 30E/360: both 31s become 30
 abbrev pub days30 : Date → Date → ℤ
 days30 s e = difference (endDay (s .day) (e .day)) (cut (s .day))
 
@@ -69,20 +70,20 @@ exactFraction D30E360 s e = thirties (years s e) (months s e) (days30E s e)
 abbrev pub whole : ℤ → Float
 whole z = ofInt binary64 z
 
-abbrev pub over : ℤ → ℕ → Float
-over a b = div binary64 (whole a) (whole (pos b))
+abbrev pub quotient : ℤ → ℕ → Float
+quotient a b = div binary64 (whole a) (whole (pos b))
 
 -- (Y + M/12) + D/360, and (Y + e/E) - s/S
 abbrev pub thirtiesBits : ℤ → ℤ → ℤ → Float
-thirtiesBits y m d = add binary64 (add binary64 (whole y) (over m 12)) (over d 360)
+thirtiesBits y m d = add binary64 (add binary64 (whole y) (quotient m 12)) (quotient d 360)
 
 abbrev pub leapBits : ℤ → ℕ → ℕ → ℕ → ℕ → Float
-leapBits y e E s S = sub binary64 (add binary64 (whole y) (over (pos e) E)) (over (pos s) S)
+leapBits y e E s S = sub binary64 (add binary64 (whole y) (quotient (pos e) E)) (quotient (pos s) S)
 
--- the f64 answer uses the Rust's operations in its order, with M signed
+-- the f64 answer uses finql's operations in its order, with M signed
 unfoldable pub bits : SimpleRule → Date → Date → Float
-bits Act365 s e = over (days s e) 365
-bits Act360 s e = over (days s e) 360
+bits Act365 s e = quotient (days s e) 365
+bits Act360 s e = quotient (days s e) 360
 bits Act365l s e = leapBits (years s e) (sinceJanuary e) (yearLength (e .year)) (sinceJanuary s) (yearLength (s .year))
 bits D30_360 s e = thirtiesBits (years s e) (months s e) (days30 s e)
 bits D30E360 s e = thirtiesBits (years s e) (months s e) (days30E s e)

@@ -1,12 +1,13 @@
-// The five day-count rules of finql's day_count_conv.rs that need two dates alone, for dates that are already judged.
+// The five day-count rules of finql's day_count_conv.rs that need two dates alone, for dates that
+// are already judged.
 ghost use mathlib.Core.Path.{_≡_};
 ghost use mathlib.Core.Bool.{true};
 ghost use Prim.Native.Nat.{_≤_};
 ghost use lib.IntN.{pos};
-ghost use Rattle.gregorian.specs.Gregorian.{yearLength};
-ghost use Rattle.calendar.specs.Dates.{isDate};
+ghost use Rattle.calendar.specs.gregorian.Gregorian.{yearLength};
+ghost use Rattle.calendar.specs.dates.Dates.{isDate};
 ghost use Rattle.day_fraction.specs.Exact.{difference};
-ghost use Rattle.day_fraction.specs.Fractions.{Span, days, years, months, sinceJanuary, cut, endDay, whole, over, thirtiesBits, bits, impossible};
+ghost use Rattle.day_fraction.specs.Fractions.{Span, days, years, months, sinceJanuary, cut, endDay, whole, quotient, thirtiesBits, bits, impossible};
 use calendar::Date;
 
 // In the order of document 01's table.
@@ -23,10 +24,10 @@ fn days_from(start: Date, end: Date) -> u32
     requires { ⌜ Span start end ⌝ }
     ensures { λ r. ⌜ pos r ≡ days start end ⌝ }
 {
-    march_years::number_of(end) - march_years::number_of(start)
+    calendar::day_of_date(end) - calendar::day_of_date(start)
 }
 
-// Inner: of two dates that are already judged.
+// Inner: the fraction by Act/365; asks for dates that exist, in order.
 pub fn calc_act_365(start: Date, end: Date) -> f64
     requires { ⌜ Span start end ⌝ }
     ensures { λ r. ⌜ r ≡ bits SimpleRule.Act365 start end ⌝ }
@@ -34,7 +35,7 @@ pub fn calc_act_365(start: Date, end: Date) -> f64
     days_from(start, end) as f64 / 365.0
 }
 
-// Inner: of the same.
+// Inner: the fraction by Act/360; asks for dates that exist, in order.
 pub fn calc_act_360(start: Date, end: Date) -> f64
     requires { ⌜ Span start end ⌝ }
     ensures { λ r. ⌜ r ≡ bits SimpleRule.Act360 start end ⌝ }
@@ -42,13 +43,14 @@ pub fn calc_act_360(start: Date, end: Date) -> f64
     days_from(start, end) as f64 / 360.0
 }
 
-// How much of its year is gone at a date: the days since 1 January, of which no serial day is taken, over the year's length.
-fn gone(t: Date) -> f64
+// How much of its year is gone at a date: the days since 1 January, of which no serial day is
+// taken, over the year's length.
+fn part_of_year_elapsed(t: Date) -> f64
     requires { ⌜ isDate t ≡ true ⌝ }
-    ensures { λ r. ⌜ r ≡ over (pos (sinceJanuary t)) (yearLength (t .year)) ⌝ }
+    ensures { λ r. ⌜ r ≡ quotient (pos (sinceJanuary t)) (yearLength (t .year)) ⌝ }
 {
-    let since = gregorian::days_before_month(t.year, t.month) + t.day - 1;
-    if gregorian::is_leap(t.year) {
+    let since = calendar::days_before_month(t.year, t.month) + t.day - 1;
+    if calendar::is_leap(t.year) {
         since as f64 / 366.0
     } else {
         since as f64 / 365.0
@@ -63,14 +65,14 @@ fn signed_difference(to: u32, from: u32) -> f64
     (to as i32 - from as i32) as f64
 }
 
-// Inner: of the same.
+// Inner: the fraction by Act/365 leap; asks for dates that exist, in order.
 pub fn calc_act_365_leap(start: Date, end: Date) -> f64
     requires { ⌜ Span start end ⌝ }
     ensures { λ r. ⌜ r ≡ bits SimpleRule.Act365l start end ⌝ }
 {
     let y = signed_difference(end.year, start.year);
-    let last = gone(end);
-    let first = gone(start);
+    let last = part_of_year_elapsed(end);
+    let first = part_of_year_elapsed(start);
     y + last - first
 }
 
@@ -104,7 +106,7 @@ fn in_thirties(start: Date, end: Date, from: u32, to: u32) -> f64
     y + m / 12.0 + d / 360.0
 }
 
-// Inner: of the same.
+// Inner: the fraction by 30/360; asks for dates that exist, in order.
 pub fn calc_30_360(start: Date, end: Date) -> f64
     requires { ⌜ Span start end ⌝ }
     ensures { λ r. ⌜ r ≡ bits SimpleRule.D30_360 start end ⌝ }
@@ -112,7 +114,7 @@ pub fn calc_30_360(start: Date, end: Date) -> f64
     in_thirties(start, end, cut_day(start.day), end_day(start.day, end.day))
 }
 
-// Inner: of the same.
+// Inner: the fraction by 30E/360; asks for dates that exist, in order.
 pub fn calc_30_e_360(start: Date, end: Date) -> f64
     requires { ⌜ Span start end ⌝ }
     ensures { λ r. ⌜ r ≡ bits SimpleRule.D30E360 start end ⌝ }
@@ -120,11 +122,12 @@ pub fn calc_30_e_360(start: Date, end: Date) -> f64
     in_thirties(start, end, cut_day(start.day), cut_day(end.day))
 }
 
-// Inner: whether refusal 9 meets the same. Both rules are 0 on two different dates in one case: from the 30th to the 31st of one month.
-pub fn is_overnight(start: Date, end: Date) -> bool
+// Inner: whether 30/360 and 30E/360 are refused 9; asks for dates that exist, in order.
+pub fn is_30th_to_31st(start: Date, end: Date) -> bool
     requires { ⌜ Span start end ⌝ }
     ensures { λ r. ⌜ (r ≡ impossible SimpleRule.D30_360 start end) × (r ≡ impossible SimpleRule.D30E360 start end) ⌝ }
 {
+    // Both rules are 0 on two different dates in one case: from the 30th to the 31st of one month.
     if start.day != 30 {
         return false;
     }

@@ -1,2 +1,3 @@
-pub mod Decimal
-pub mod Parts
+pub mod big_digits
+pub mod four_decimals
+pub mod float

@@ -1,1 +1,2 @@
-// The desk card, a to m: one table of laws of the entry points' definitions, which has no code of its own.
+// The desk card, a to m: one table of laws of the entry points' definitions, without code of its
+// own.

@@ -1,22 +1,23 @@
-// The clerk's checks: the desk card, the limits and the slips, each asked of its entry point and compared with what the paper says.
+// The clerk's checks: the desk card, the limits and the slips, each asked of its entry point and
+// compared with what the paper says.
 ghost use mathlib.Core.Path.{_≡_};
 ghost use lib.ListN.{length};
 use bond::Note;
+use bond::NoteNumber;
 use calendar::Date;
 use calendar::DateAnswer;
 use calendar::Day;
-use cash_amount::Currency;
+use cash_flow::Currency;
 use cash_flow::FlowsAnswer;
 use coupon_date::CouponAnswer;
 use coupon_date::CouponDate;
 use day_adjust::DayAdjust;
 use day_count_conv::DayCountConv;
-use day_count_conv::Extras;
+use day_count_conv::NoteTerms;
 use day_count_conv::RollDate;
 use day_count_conv::RollPeriod;
 use day_count_conv::YearFraction;
 use libc::STDOUT_FILENO;
-use note_limits::NoteNumber;
 use time_period::PeriodAnswer;
 use time_period::TimePeriod;
 use time_period::TimePeriodUnit;
@@ -56,19 +57,19 @@ fn print_text(s: &[u8]) {
 
 fn print_date(t: Date) {
     let mut out = [0u8; 32];
-    date_text::write_date(t, &mut out);
+    flow_text::write_date(t, &mut out);
     print_text(&out);
 }
 
 fn print_period(p: TimePeriod) {
     let mut out = [0u8; 32];
-    period_text::write_period(p, &mut out);
+    term_text::write_period(p, &mut out);
     print_text(&out);
 }
 
 fn print_coupon(c: CouponDate) {
     let mut out = [0u8; 32];
-    coupon_text::write_coupon_date(c, &mut out);
+    term_text::write_coupon_date(c, &mut out);
     print_text(&out);
 }
 
@@ -169,7 +170,8 @@ fn told_date(c: Tally, got: DateAnswer, want: u32) -> Tally {
     }
 }
 
-// Wanted is an f64 and 0, or 0 and a refusal's number. No zero and no NaN is wanted, so that equal numbers have equal bits.
+// Wanted is an f64 and 0, or 0 and a refusal's number. No zero and no NaN is wanted, so that equal
+// numbers have equal bits.
 fn told_amount(c: Tally, got: YearFraction, want: f64, number: u32) -> Tally {
     end_question();
     match got {
@@ -230,7 +232,7 @@ fn print_row(b: u8) {
 fn ask_day(c: Tally, n: u32, want: u32) -> Tally {
     print_bytes(b"- day ");
     print_number(n as u64);
-    told_date(c, serial_days::date_of(Day(n)), want)
+    told_date(c, calendar::date_of(Day(n)), want)
 }
 
 // A period added, or with '-' subtracted.
@@ -243,16 +245,16 @@ fn ask_step(c: Tally, row: u8, from: u32, sign: u8, num: i32, unit: u8, want: u3
     print_byte(sign);
     print_period(p);
     if sign == b'-' {
-        return told_date(c, period_steps::sub_from(p, t), want);
+        return told_date(c, time_period::sub_from(p, t), want);
     }
-    told_date(c, period_steps::add_to(p, t), want)
+    told_date(c, time_period::add_to(p, t), want)
 }
 
 // dd.mm text.
 fn ask_coupon(c: Tally, s: &[u8], want: u32) -> Tally {
     print_bytes(b"- coupon ");
     print_bytes(s);
-    told_coupon(c, coupon_text::read_coupon_date(s), want)
+    told_coupon(c, term_text::read_coupon_date(s), want)
 }
 
 // A period's text; each that is asked is to be refused.
@@ -260,7 +262,7 @@ fn ask_period(c: Tally, s: &[u8], want: u32) -> Tally {
     print_bytes(b"- period ");
     print_bytes(s);
     end_question();
-    match period_text::read_period(s) {
+    match term_text::read_period(s) {
         PeriodAnswer::Period(p) => {
             print_period(p);
             ended(c, false)
@@ -286,7 +288,7 @@ fn ask_between(
     rule: DayCountConv,
     start: u32,
     end: u32,
-    x: Extras,
+    x: NoteTerms,
     want: f64,
     number: u32,
 ) -> Tally {
@@ -295,7 +297,7 @@ fn ask_between(
     print_date(s);
     print_bytes(b" to ");
     print_date(e);
-    let got = year_fractions::year_fraction(rule, s, e, x);
+    let got = day_count_conv::year_fraction(rule, s, e, x);
     told_amount(c, got, want, number)
 }
 
@@ -308,21 +310,17 @@ fn ask_fraction(
     want: f64,
     number: u32,
 ) -> Tally {
-    let x = Extras {
-        roll: RollDate::Absent,
-        period: RollPeriod::Absent,
-    };
     print_row(row);
     print_rule(rule);
-    ask_between(c, rule, start, end, x, want, number)
-}
-
-// What ICMA asks for.
-fn rolled(p: TimePeriod, t: Date) -> Extras {
-    Extras {
-        roll: RollDate::Date(t),
-        period: RollPeriod::Period(p),
-    }
+    ask_between(
+        c,
+        rule,
+        start,
+        end,
+        day_count_conv::no_terms(),
+        want,
+        number,
+    )
 }
 
 // ICMA, rolled from a date by months.
@@ -349,7 +347,7 @@ fn ask_icma(
         DayCountConv::ActActICMA,
         start,
         end,
-        rolled(p, t),
+        day_count_conv::rolled_from(t, p),
         want,
         number,
     )
@@ -358,7 +356,7 @@ fn ask_icma(
 // ICMA, rolled from a date, but by no period.
 fn ask_unperioded(c: Tally, roll: u32, start: u32, end: u32, number: u32) -> Tally {
     let t = date_in(roll);
-    let x = Extras {
+    let x = NoteTerms {
         roll: RollDate::Date(t),
         period: RollPeriod::Absent,
     };
@@ -493,7 +491,8 @@ fn card_note(c: Tally) -> Tally {
     ask_accrued(c, b'm', rated(4.0), 20210415, 9.94475138121547, 0)
 }
 
-// The calendar's last day and the next; 15 months back, both ways; and the least number of a period, which has no negative.
+// The calendar's last day and the next; 15 months back, both ways; and the least number of a
+// period, which has no negative.
 fn limit_days(c: Tally) -> Tally {
     let c = ask_day(c, 3652059, 99991231);
     let c = ask_day(c, 3652060, 1);
@@ -574,7 +573,8 @@ fn still(unit: u8) -> Note {
     note_of(4.0, 20210115, 20220115, 15, 0, unit)
 }
 
-// A zero period, in a rollout, in accrued interest and in one ICMA fraction; the note's own period has three flows.
+// A zero period, in a rollout, in accrued interest and in one ICMA fraction; the note's own period
+// has three flows.
 fn slip_zero_periods(c: Tally) -> Tally {
     let c = ask_flows(c, rated(4.0), 3, 0);
     let c = ask_flows(c, still(b'D'), 0, 14);

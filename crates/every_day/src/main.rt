@@ -1,4 +1,5 @@
-// Every day of the calendar, held to a count kept day by day: its date, that date's serial day, the table's where a year begins, and its weekday.
+// Every day of the calendar, held to a count kept day by day: its date, that date's serial day, the
+// table's where a year begins, and its weekday.
 use calendar::Date;
 use calendar::DateAnswer;
 use calendar::Day;
@@ -77,21 +78,21 @@ fn counted_on(c: Count) -> Count {
 }
 
 fn has_weekday(d: Day, weekday: u32) -> bool {
-    match serial_days::weekday(d) {
+    match calendar::weekday(d) {
         WeekdayAnswer::Weekday(w) => w == weekday,
         WeekdayAnswer::Refused(_) => false,
     }
 }
 
 fn has_day(t: Date, n: u32) -> bool {
-    match serial_days::day_of(t) {
+    match calendar::day_of(t) {
         DayAnswer::Day(d) => d.0 == n,
         DayAnswer::Refused(_) => false,
     }
 }
 
 fn has_date(n: u32, t: Date) -> bool {
-    match serial_days::date_of(Day(n)) {
+    match calendar::date_of(Day(n)) {
         DateAnswer::Date(u) => calendar::is_same(t, u),
         DateAnswer::Refused(_) => false,
     }
@@ -105,7 +106,7 @@ fn begins(year: u32, n: u32) -> bool {
     if 9999 < year {
         return false;
     }
-    gregorian::first_of_year(year) == n
+    calendar::first_of_year(year) == n
 }
 
 // A date of 1 January is the table's; of another nothing is asked of it.

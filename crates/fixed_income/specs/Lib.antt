@@ -1,2 +1,2 @@
-pub mod After
-pub mod Promises
+pub mod records
+pub mod plain

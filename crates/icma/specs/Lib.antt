@@ -1,2 +1,2 @@
-pub mod Walk
-pub mod Leads
+pub mod walks
+pub mod parts

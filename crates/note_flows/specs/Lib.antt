@@ -1,2 +1,2 @@
-pub mod NoteFlows
-pub mod Turns
+pub mod schedule
+pub mod flows

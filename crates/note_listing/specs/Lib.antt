@@ -1,2 +1,2 @@
-pub mod Listing
-pub mod Steps
+pub mod lines
+pub mod note

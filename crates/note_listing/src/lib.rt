@@ -1,39 +1,5 @@
-// The list on the desk: from the bytes of a packed note to its flows as lines, or to its refusal.
-ghost use Prim.Native.Nat.{_≤_};
-ghost use lib.ListN.{length};
-ghost use Rattle.note_lines.specs.Steps.{LinesWritten};
-ghost use Rattle.note_listing.specs.Listing.{noteLines, listing, ListPromise};
-ghost use Rattle.note_listing.specs.Steps.{withDays};
-use bond::Note;
-use cash_flow::FlowsAnswer;
-use packed::PackedAnswer;
-use text::LengthAnswer;
+// From the bytes of a packed note to its lines, or to `refused N`.
+pub mod lines;
+pub mod note;
 
-// The lines of a note and its holidays, or a refusal.
-fn list_flows(note: Note, table: &[u32], out: &mut [u8]) -> LengthAnswer
-    ensures { λ r. ⌜ LinesWritten (noteLines (withDays note (now (table .entry)))) (now (out .entry)) (now (out .exit)) r ⌝ }
-{
-    let mut days = [0u32; 2000];
-    let mut amounts = [0.0f64; 2000];
-    match rollout::rollout_flows(note, 1.0, table, &mut days, &mut amounts) {
-        FlowsAnswer::Flows(n) => {
-            let currency = note.currency;
-            note_lines::list_lines(currency, &days[..n], &amounts[..n], out)
-        }
-        FlowsAnswer::Refused(k) => refusal_text::write_refusal(k, out),
-    }
-}
-
-// The listing of a packed note, at the start of the lent bytes: its flows, or `refused N`. No listing is longer than 662,000 bytes.
-pub fn list_note(s: &[u8], out: &mut [u8]) -> LengthAnswer
-    ensures { λ r. ⌜ (ListPromise (now (s .entry)) (now (out .entry)) (now (out .exit)) r) × (length (listing (now (s .entry))) ≤ 662000) ⌝ }
-{
-    let mut table = [0u32; 4096];
-    match packed::read_note(s, &mut table) {
-        PackedAnswer::Packed(p) => {
-            let note = p.note;
-            list_flows(note, &table[..p.holidays], out)
-        }
-        PackedAnswer::Refused(n) => refusal_text::write_refusal(n, out),
-    }
-}
+pub use note::list_note;

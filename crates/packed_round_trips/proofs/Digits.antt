@@ -1,5 +1,4 @@
 -- A number's digits, from their places and back.
--- Assumes nothing.
 use Prim.Native.Nat.{ℕ, zero, suc, _+_, _*_, _/_, _%_, _^_, _≤_, _<_, min}
 use mathlib.Core.Path.{_≡_, refl, sym, subst, _∙_}
 use mathlib.Core.Bool.{Bool, true, false}
@@ -7,12 +6,12 @@ use native.Mathlib.Nat.{pow-suc}
 use native.Mathlib.Omega.{arith}
 use borrow.Author.Tests.{lt-ltb, le-ltb, ltb-true, ltb-false, eq-eqb}
 use lib.Dec.{ltb}
-use Rattle.paper.specs.Outcome.{both}
-use Rattle.paper.proofs.Outcomes.{both-true}
-use Rattle.packed_note.specs.Codes.{placeGood, digitsGood, digitsNumber}
-use Rattle.packed_note.proofs.Numbers.{used-place, unused-place, number-none, number-suc}
-use Rattle.packed_raw.specs.Codes.{digitsPlaces}
-use Rattle.packed_raw.proofs.Codes.{places-none, places-used, places-unused}
+use Rattle.outcome.specs.Outcome.{both}
+use Rattle.outcome.proofs.Outcomes.{both-true}
+use Rattle.packed_read.specs.note.Codes.{placeGood, digitsGood, digitsNumber}
+use Rattle.packed_read.proofs.note.Numbers.{used-place, unused-place, number-none, number-suc}
+use Rattle.packed_write.specs.numbers.Codes.{digitsPlaces}
+use Rattle.packed_write.proofs.numbers.Codes.{places-none, places-used, places-unused}
 
 -- ---- one place more
 

@@ -1,6 +1,5 @@
-pub mod Found
+pub mod Tables
 pub mod Digits
-pub mod Codes
 pub mod Notes
 pub mod Written
 pub mod Read

@@ -1,37 +1,34 @@
 -- A note and the numbers it is packed as, each from the other.
--- Assumes nothing.
 use Prim.Native.Nat.{ℕ, _^_, _<_, min}
 use mathlib.Core.Path.{_≡_, sym, ap, subst, _∙_}
 use mathlib.Core.Bool.{true, not}
+use mathlib.Core.List.{List, map}
 use native.Mathlib.Nat.{add-sub-of-le, add-sub-cancel-left}
 use native.Mathlib.Omega.{arith}
 use borrow.Author.Tests.{le-leb, eqb-true}
-use lib.Dec.{T, leb, eqb}
+use lib.Dec.{T, leb}
+use lib.IntN.{pos}
+use lib.ListN.{length}
 use lib.Ieee.{binary64, ofBits, isNan}
 use lib.Ieee.Bits.{ofBits-toBits, toBits-ofBits}
-use Rattle.paper.specs.Outcome.{given, both}
-use Rattle.paper.proofs.Outcomes.{both-true, unless-given, then-given}
-use Rattle.time_period.specs.declared.TimePeriodUnit.{TimePeriodUnit}
-use Rattle.day_count_conv.specs.Conventions.{conventionOf}
-use Rattle.day_count_conv.specs.declared.DayCountConv.{DayCountConv}
-use Rattle.day_count_conv.proofs.OneOutcome.{code-back}
-use Rattle.note_limits.specs.Limits.{isRate}
-use Rattle.bond.specs.Notes.{noteChecks}
-use Rattle.bond.specs.declared.Note.{Note}
-use Rattle.note_limits.specs.declared.NoteNumber.{NoteNumber}
-use Rattle.bond.proofs.Ends.{passed}
-use Rattle.packed_codes.specs.Codes.{unitOfCode}
-use Rattle.packed_codes.proofs.Codes.{unit-back}
-use Rattle.packed_note.specs.Codes.{numberGood, digitsGood, digitsNumber}
-use Rattle.packed_note.specs.Records.{noteWith, checkedUnit, noteIn}
-use Rattle.packed_numbers.specs.declared.Raw.{Raw}
-use Rattle.packed_raw.specs.Codes.{digitsPlaces}
-use Rattle.packed_raw.specs.Fields.{rawWith}
-use Rattle.packed_raw.specs.Fits.{Packable}
-use Rattle.packed_raw.proofs.Accepted.{capitals, Digits, digits-known, in-twelve, accepted, rate-no-nan}
+use Rattle.outcome.specs.Outcome.{given, both}
+use Rattle.outcome.proofs.Outcomes.{both-true}
+use Rattle.bond.specs.note.Notes.{noteChecks}
+use Rattle.bond.specs.declared.note.Note.{Note}
+use Rattle.bond.specs.declared.limits.NoteNumber.{NoteNumber}
+use Rattle.bond.proofs.note.Ends.{passed}
+use Rattle.packed_codes.proofs.Codes.{unit-code, unit-back, convention-code, convention-back, adjustment-code, adjustment-back}
+use Rattle.packed_layout.specs.NoteLayout.{Name, noteNames, numberIn, NumbersFit}
+use Rattle.packed_layout.proofs.NoteLayout.{by-names}
+use Rattle.packed_read.specs.note.Codes.{numberGood, digitsGood, digitsNumber}
+use Rattle.packed_read.specs.note.Records.{noteWith, noteFrom}
+use Rattle.packed_read.proofs.note.Reading.{Given, was-given}
+use Rattle.packed_write.specs.numbers.Codes.{digitsPlaces}
+use Rattle.packed_write.specs.numbers.Numbers.{numbersOf}
+use Rattle.packed_write.specs.numbers.Packable.{Packable}
+use Rattle.packed_write.proofs.numbers.Accepted.{capitals, Digits, digits-known, in-twelve, accepted, rate-no-nan}
 use Rattle.packed_round_trips.specs.RoundTrips.{InMachine}
 use Rattle.packed_round_trips.proofs.Digits.{good-places, places-number, number-places}
-use Rattle.packed_round_trips.proofs.Codes.{unit-code, rule-back, rule-code, convention-code}
 
 -- ---- from the note and back
 
@@ -45,82 +42,60 @@ same-digits n h =
     places-number (n .count) 10 (n .digits) (subst (λ (j : ℕ). n .digits < 10 ^ j) (sym m) (h .below))
 
 module _ (n : Note) (p : Packable n) (m : InMachine n) where
-  pub note-back : noteWith (rawWith n) (n .period .unit) (n .«day_count_convention») ≡ n
+  note-back : noteWith (numbersOf n) (n .period .unit) (n .«day_count_convention») (n .«business_day_rule») ≡ n
   note-back =
       let a = accepted n p in
       let c = capitals (n .currency) (a .currency) in
       rw (
         same-digits (n .number) (digits-known (n .number) (a .number)),
         in-twelve (n .period .num) (a .period) (p .0) .1,
-        rule-back (n .«business_day_rule»),
         ofBits-toBits binary64 (n .rate) (m .1),
         add-sub-of-le {n = n .currency .first} {m = 64} (omega (arith, c .first .0)),
         add-sub-of-le {n = n .currency .second} {m = 64} (omega (arith, c .second .0)),
         add-sub-of-le {n = n .currency .third} {m = 64} (omega (arith, c .third .0)),
       )
 
-  pub note-read : noteIn true true (rawWith n) ≡ given n
-  unfolding noteIn checkedUnit
+  pub note-read : noteFrom true (numbersOf n) ≡ given n
+  unfolding noteFrom
   note-read =
-      rw (places-good (n .number) (digits-known (n .number) (accepted n p .number)), unit-back (n .period .unit), code-back (n .«day_count_convention»), note-back) (p .1)
+      rw (places-good (n .number) (digits-known (n .number) (accepted n p .number)), unit-back (n .period .unit), convention-back (n .«day_count_convention»), adjustment-back (n .«business_day_rule»), note-back) (p .1)
 
 -- ---- from the numbers and back
 
--- numbers that fit their bits, as far as it matters
-pub record Narrow (r : Raw) : Type 0 where
-  pub digits : r .digits < 16 ^ 10
-  pub number : r .terms .number < 4096
-  pub adjustment : r .terms .adjustment < 4
-  pub rate : r .rate < 2 ^ 64
+module _ (ns : List ℕ) (n : Note) (e : noteFrom true ns ≡ given n) where
+  read : Given true ns n
+  read = was-given true ns n e
 
--- what a note that was read has
-pub record Read (r : Raw) (n : Note) : Type 0 where
-  pub unit : TimePeriodUnit
-  pub convention : DayCountConv
-  pub number-good : numberGood (r .count) (r .digits) ≡ true
-  pub spare : r .spare ≡ 0
-  pub unit-known : unitOfCode (r .terms .unit) ≡ given unit
-  pub convention-known : conventionOf (r .terms .convention) ≡ given convention
-  pub itself : noteWith r unit convention ≡ n
-  pub checked : noteChecks true true n ≡ given n
-  pub rate : isRate (n .rate) ≡ true
+  itself : noteWith ns (read .unit) (read .convention) (read .adjustment) ≡ n
+  itself = passed true true (noteWith ns (read .unit) (read .convention) (read .adjustment)) n (read .checked) .itself
 
-pub was-read : (r : Raw) (n : Note) → noteIn true true r ≡ given n → Read r n
-unfolding noteIn checkedUnit
-was-read r n e =
-    let a = unless-given (both true (both (numberGood (r .count) (r .digits)) (eqb (r .spare) 0))) 18 _ n e in
-    let b = both-true (numberGood (r .count) (r .digits)) (eqb (r .spare) 0) (a .0) in
-    let u = then-given (unitOfCode (r .terms .unit)) (checkedUnit true r) n (a .1) in
-    let c = then-given (conventionOf (r .terms .convention)) (λ c. noteChecks true true (noteWith r (u .0) c)) n (u .2) in
-    let q = passed true true (noteWith r (u .0) (c .0)) n (c .2) in
-    record {
-      unit = u .0;
-      convention = c .0;
-      number-good = b .0;
-      spare = eqb-true (r .spare) 0 (b .1);
-      unit-known = u .1;
-      convention-known = c .1;
-      itself = q .itself;
-      checked = subst (λ (m : Note). noteChecks true true m ≡ given n) (q .itself) (c .2);
-      rate = subst (λ (m : Note). isRate (m .rate) ≡ true) (q .itself) (q .note .rate);
-    }
+  pub note-passes : noteChecks true true n ≡ given n
+  note-passes = subst (λ (m : Note). noteChecks true true m ≡ given n) itself (read .checked)
 
-same-places : (r : Raw) → numberGood (r .count) (r .digits) ≡ true → r .digits < 16 ^ 10 → digitsPlaces (r .count) 10 (digitsNumber (r .count) 10 (r .digits)) ≡ r .digits
-unfolding numberGood
-same-places r g l = number-places (r .count) 10 (r .digits) (both-true (both (leb 1 (r .count)) (leb (r .count) 10)) (digitsGood (r .count) 10 (r .digits)) g .1) l
+  pub period-number : n .period .num ≡ pos (numberIn ns Name.number)
+  period-number = ap (λ (m : Note). m .period .num) (sym itself)
 
-pub raw-back : (r : Raw) (n : Note) → Narrow r → Read r n → rawWith n ≡ r
-raw-back r n f h =
-    let no-nan : T (not (isNan (ofBits binary64 (r .rate)))) = subst (λ (m : Note). T (not (isNan (m .rate)))) (sym (h .itself)) (rate-no-nan (n .rate) (h .rate)) in
-    ap rawWith (sym (h .itself))
-    ∙ rw (
-      same-places r (h .number-good) (f .digits),
-      unit-code (r .terms .unit) (h .unit) (h .unit-known),
-      convention-code (r .terms .convention) (h .convention) (h .convention-known),
-      rule-code (r .terms .adjustment) (f .adjustment),
-      toBits-ofBits binary64 (r .rate) (f .rate) no-nan,
-      add-sub-cancel-left 64 (r .letters .first),
-      add-sub-cancel-left 64 (r .letters .second),
-      add-sub-cancel-left 64 (r .letters .third),
-      ← h .spare,
-    )
+  same-places : numberIn ns Name.digits < 16 ^ 10 → digitsPlaces (numberIn ns Name.digitCount) 10 (digitsNumber (numberIn ns Name.digitCount) 10 (numberIn ns Name.digits)) ≡ numberIn ns Name.digits
+  unfolding numberGood
+  same-places l =
+      let c : ℕ = numberIn ns Name.digitCount in
+      number-places c 10 (numberIn ns Name.digits) (both-true (both (leb 1 c) (leb c 10)) (digitsGood c 10 (numberIn ns Name.digits)) (read .number-good) .1) l
+
+  pub numbers-back : length ns ≡ 20 → NumbersFit ns → numbersOf n ≡ ns
+  numbers-back l f =
+      let q = passed true true (noteWith ns (read .unit) (read .convention) (read .adjustment)) n (read .checked) in
+      let no-nan : T (not (isNan (ofBits binary64 (numberIn ns Name.rate)))) = rate-no-nan (ofBits binary64 (numberIn ns Name.rate)) (q .note .rate) in
+      let small : numberIn ns Name.rate < 2 ^ 64 = omega arith in
+      let same : numbersOf (noteWith ns (read .unit) (read .convention) (read .adjustment)) ≡ map (numberIn ns) noteNames =
+      rw (
+        same-places (omega arith),
+        unit-code (numberIn ns Name.unit) (read .unit) (read .unit-known),
+        convention-code (numberIn ns Name.dayCount) (read .convention) (read .convention-known),
+        adjustment-code (numberIn ns Name.adjustment) (read .adjustment) (read .adjustment-known),
+        toBits-ofBits binary64 (numberIn ns Name.rate) small no-nan,
+        add-sub-cancel-left 64 (numberIn ns Name.firstLetter),
+        add-sub-cancel-left 64 (numberIn ns Name.secondLetter),
+        add-sub-cancel-left 64 (numberIn ns Name.thirdLetter),
+        eqb-true (numberIn ns Name.spare) 0 (read .spare),
+      ) in
+      ap numbersOf (sym itself) ∙ same ∙ by-names ns l

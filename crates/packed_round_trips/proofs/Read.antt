@@ -1,10 +1,8 @@
 -- What is read without a refusal writes back.
--- Assumes nothing.
-use Prim.Native.Nat.{ℕ, _+_, _-_, _*_, _/_, _≤_, _<_}
-use mathlib.Core.Path.{_≡_, refl, sym, ap, ap₂, subst, _∙_}
+use Prim.Native.Nat.{ℕ, _+_, _-_, _*_, _/_, _<_}
+use mathlib.Core.Path.{_≡_, refl, sym, ap, subst, _∙_}
 use mathlib.Core.Bool.{Bool, true}
-use mathlib.Core.List.{List, _++_, append-nil}
-use native.Mathlib.Nat.{zero-add}
+use mathlib.Core.List.{List, _++_, append-assoc, append-nil}
 use native.Mathlib.Omega.{arith}
 use borrow.Author.Tests.{le-leb, eqb-true}
 use lib.Dec.{leb}
@@ -12,54 +10,43 @@ use lib.ListN.{length, drop}
 use lib.Seq.{drop-length}
 use lib.IntN.{pos}
 use lib.Signed.{leZ}
-use Rattle.paper.specs.Outcome.{given}
-use Rattle.paper.proofs.Outcomes.{given-injective, both-true, then-given}
-use Rattle.bit_fields.specs.Bits.{fieldBits, fieldsBits, bitsOf, bytesOf, field, AreBytes}
-use Rattle.bit_fields.proofs.Bits.{widths, length-fields, length-bits, field-at, field-below, bytes-back}
-use Rattle.holidays.specs.Table.{isTable}
-use Rattle.bond.specs.declared.Note.{Note}
-use Rattle.packed_numbers.specs.Numbers.{rawOf}
-use Rattle.packed_note.specs.Records.{noteIn}
-use Rattle.packed_numbers.specs.declared.Raw.{Raw}
-use Rattle.packed_table.specs.Tables.{tableCount, tableDays, isWhole, isTableIn}
-use Rattle.packed_table.proofs.Tables.{whole-long, whole-length, length-days, exact}
-use Rattle.packed.specs.Tables.{noteInBytes, Unpacked, unpacked}
-use Rattle.packed.proofs.Reading.{bytes-given, few-days}
-use Rattle.packed_raw.specs.Fields.{rawWith}
-use Rattle.packed_write.specs.Fields.{rawFields, tableFields, zerosBehind, wholeBytes, rawBytes}
-use Rattle.packed_write.specs.Writing.{packedNote}
-use Rattle.packed_write.proofs.Fields.{length-record}
-use Rattle.packed_round_trips.proofs.Found.{Found, found-bits, found-both, raw-found, days-found}
-use Rattle.packed_round_trips.proofs.Notes.{Narrow, Read, was-read, raw-back}
+use Rattle.outcome.specs.Outcome.{given}
+use Rattle.outcome.proofs.Outcomes.{given-injective, both-true, unless-given, then-given}
+use Rattle.bit_fields.specs.Bits.{Field, fieldBits, fieldsBits, bitsOf, bytesOf, field, AreBytes}
+use Rattle.bit_fields.proofs.Bits.{fields-append, length-bits, field-at, bytes-back}
+use Rattle.business_days.specs.table.Table.{isTable}
+use Rattle.bond.specs.declared.note.Note.{Note}
+use Rattle.packed_layout.specs.NoteLayout.{Name, numberIn, noteWidths, noteNumbers, noteFields, NumbersFit, tableFields, bitLength, byteLength}
+use Rattle.packed_layout.proofs.Layouts.{length-numbers, read-fit, put-read}
+use Rattle.packed_read.specs.note.Records.{noteFrom}
+use Rattle.packed_read.specs.table.Tables.{tableCount, tableDays, isWhole, isTableIn}
+use Rattle.packed_read.proofs.table.Tables.{whole-long, whole-length, length-days, exact}
+use Rattle.packed_read.specs.packed.Notes.{noteInBytes, Unpacked, unpacked}
+use Rattle.packed_read.proofs.packed.Reading.{bytes-given, few-days}
+use Rattle.packed_write.specs.numbers.Numbers.{numbersOf}
+use Rattle.packed_write.specs.packed.Fields.{zerosBehind, wholeBytes, numbersBytes}
+use Rattle.packed_write.specs.packed.Writing.{packedNote}
+use Rattle.packed_write.proofs.packed.Fields.{length-record}
+use Rattle.packed_round_trips.proofs.Tables.{table-put}
+use Rattle.packed_round_trips.proofs.Notes.{numbers-back, note-passes, period-number}
 use Rattle.packed_round_trips.proofs.Written.{zeros-left}
-
--- ---- the numbers in the bits are narrow
-
-pub narrow : (s : List ℕ) → 32 ≤ length s → Narrow (rawOf s)
-unfolding rawOf
-narrow s h = record {
-  digits = field-below s 4 40 (omega arith);
-  number = field-below s 102 12 (omega arith);
-  adjustment = field-below s 117 2 (omega arith);
-  rate = field-below s 151 64 (omega arith);
-}
 
 -- ---- bytes that are whole, and whose table is taken, are their fields
 
 module _ (s : List ℕ) (w : isWhole s ≡ true) (t : isTableIn s ≡ true) where
-  long : length s ≡ (256 + 22 * tableCount s + 7) / 8
+  long : length s ≡ byteLength (tableCount s)
   long = whole-length s w (few-days s t)
 
   counted : length (tableDays s) ≡ tableCount s
   counted = length-days s 0 (tableCount s)
 
   -- the bits behind the last day
-  spare-zero : field s (256 + 22 * tableCount s) (length s * 8 - (256 + 22 * tableCount s)) ≡ 0
-  spare-zero = eqb-true (field s (256 + 22 * tableCount s) (length s * 8 - (256 + 22 * tableCount s))) 0 (exact s (tableCount s) (field s (256 + 22 * tableCount s) (length s * 8 - (256 + 22 * tableCount s))) refl (whole-long s w) (few-days s t) long refl ∙ w)
+  spare-zero : field s (bitLength (tableCount s)) (length s * 8 - bitLength (tableCount s)) ≡ 0
+  spare-zero = eqb-true (field s (bitLength (tableCount s)) (length s * 8 - bitLength (tableCount s))) 0 (exact s (tableCount s) (field s (bitLength (tableCount s)) (length s * 8 - bitLength (tableCount s))) refl (whole-long s w) (few-days s t) long refl ∙ w)
 
-  spare-bits : drop (256 + 22 * tableCount s) (bitsOf s) ≡ fieldBits (length s * 8 - (256 + 22 * tableCount s)) 0
+  spare-bits : drop (bitLength (tableCount s)) (bitsOf s) ≡ fieldBits (length s * 8 - bitLength (tableCount s)) 0
   spare-bits =
-      let at : ℕ = 256 + 22 * tableCount s in
+      let at : ℕ = bitLength (tableCount s) in
       let z : ℕ = length s * 8 - at in
       let end : at + z ≡ length (bitsOf s) = omega (arith, length-bits s, long) in
       field-at s at z (omega (arith, long))
@@ -67,28 +54,25 @@ module _ (s : List ℕ) (w : isWhole s ≡ true) (t : isTableIn s ≡ true) wher
       ∙ ap (λ (r : List ℕ). fieldBits z 0 ++ r) (ap (λ (k : ℕ). drop k (bitsOf s)) end ∙ drop-length (bitsOf s))
       ∙ append-nil (fieldBits z 0)
 
-  table-found : Found s 240 (tableFields (tableDays s))
-  table-found = (sym counted, days-found s 0 (tableCount s))
+  module _ (ns : List ℕ) (e : ns ≡ noteNumbers s) where
+    abbrev fields : List Field
+    fields = noteFields ns ++ tableFields (tableDays s)
 
-  module _ (r : Raw) (e : r ≡ rawOf s) where
-    all-found : Found s 0 (rawFields r ++ tableFields (tableDays s))
-    all-found = found-both s 0 (rawFields r) (tableFields (tableDays s)) (subst (λ (x : Raw). Found s 0 (rawFields x)) (sym e) (raw-found s)) table-found
-
-    pub bits-are : bitsOf s ≡ fieldsBits (rawFields r ++ tableFields (tableDays s)) ++ fieldBits (zerosBehind (length (fieldsBits (rawFields r ++ tableFields (tableDays s))))) 0
+    bits-are : bitsOf s ≡ fieldsBits fields ++ fieldBits (zerosBehind (length (fieldsBits fields))) 0
     bits-are =
-        let fs = rawFields r ++ tableFields (tableDays s) in
-        let wide : widths fs ≡ 256 + 22 * tableCount s = sym (length-fields fs) ∙ length-record r (tableDays s) ∙ ap (λ (k : ℕ). 256 + 22 * k) counted in
-        let z : zerosBehind (length (fieldsBits fs)) ≡ length s * 8 - (256 + 22 * tableCount s) = zeros-left (length (fieldsBits fs)) (length s) (256 + 22 * tableCount s) (length-record r (tableDays s) ∙ ap (λ (k : ℕ). 256 + 22 * k) counted) long in
-        found-bits s 0 fs all-found (omega (arith, long))
-        ∙ ap (λ (x : List ℕ). fieldsBits fs ++ x) (ap (λ (k : ℕ). drop k (bitsOf s)) (zero-add (widths fs) ∙ wide) ∙ spare-bits ∙ ap (λ (k : ℕ). fieldBits k 0) (sym z))
+        let note : List ℕ = fieldsBits (noteFields ns) in
+        let table : List ℕ = fieldsBits (tableFields (tableDays s)) in
+        let z : zerosBehind (length (fieldsBits fields)) ≡ length s * 8 - bitLength (tableCount s) = zeros-left (length (fieldsBits fields)) (length s) (bitLength (tableCount s)) (length-record ns (tableDays s) ∙ ap bitLength counted) long in
+        put-read s 0 0 noteWidths ns e (omega (arith, long))
+        ∙ ap (λ (x : List ℕ). note ++ x) (table-put s (omega (arith, long)) ∙ ap (λ (x : List ℕ). table ++ x) (spare-bits ∙ ap (λ (k : ℕ). fieldBits k 0) (sym z)))
+        ∙ sym (append-assoc note table (fieldBits (zerosBehind (length (fieldsBits fields))) 0))
+        ∙ ap (λ (x : List ℕ). x ++ fieldBits (zerosBehind (length (fieldsBits fields))) 0) (sym (fields-append (noteFields ns) (tableFields (tableDays s))))
 
-    pub writes-same : AreBytes s → rawBytes r (tableDays s) ≡ s
-    unfolding rawBytes wholeBytes
+    pub writes-same : AreBytes s → numbersBytes ns (tableDays s) ≡ s
+    unfolding numbersBytes wholeBytes
     writes-same a =
-        let k : (length (fieldsBits (rawFields r ++ tableFields (tableDays s))) + 7) / 8 ≡ length s = omega (arith, length-record r (tableDays s), counted, long) in
-        ap (bytesOf ((length (fieldsBits (rawFields r ++ tableFields (tableDays s))) + 7) / 8)) (sym bits-are)
-        ∙ ap (λ (j : ℕ). bytesOf j (bitsOf s)) k
-        ∙ bytes-back s a
+        let k : (length (fieldsBits fields) + 7) / 8 ≡ length s = omega (arith, length-record ns (tableDays s), counted, long) in
+        ap (bytesOf ((length (fieldsBits fields) + 7) / 8)) (sym bits-are) ∙ ap (λ (j : ℕ). bytesOf j (bitsOf s)) k ∙ bytes-back s a
 
 -- ---- the note and the table that were read
 
@@ -103,20 +87,23 @@ module _ (s : List ℕ) (n : Note) (a : AreBytes s) (e : noteInBytes s ≡ given
   judged : (isWhole s ≡ true) × (isTableIn s ≡ true)
   judged = bytes-given s n e
 
-  note-was : Read (rawOf s) n
+  note-was : noteFrom true (noteNumbers s) ≡ given n
   unfolding noteInBytes
-  note-was = was-read (rawOf s) n (ap₂ (λ (x y : Bool). noteIn x y (rawOf s)) (sym (judged .0)) (sym (judged .1)) ∙ e)
+  note-was = ap (λ (b : Bool). noteFrom b (noteNumbers s)) (sym (judged .1)) ∙ unless-given (isWhole s) 18 (noteFrom (isTableIn s) (noteNumbers s)) n e .1
 
-  same-raw : rawWith n ≡ rawOf s
-  same-raw = raw-back (rawOf s) n (narrow s (whole-long s (judged .0))) note-was
+  narrow : NumbersFit (noteNumbers s)
+  narrow = read-fit s 0 0 noteWidths (noteNumbers s) refl (omega (arith, whole-long s (judged .0)))
+
+  same-numbers : numbersOf n ≡ noteNumbers s
+  same-numbers = numbers-back (noteNumbers s) n note-was (length-numbers s 0 noteWidths) narrow
 
   period-narrow : leZ (n .period .num) (pos 4095) ≡ true
-  period-narrow = subst (λ (m : Note). leZ (m .period .num) (pos 4095) ≡ true) (note-was .itself) (twelve-bits (rawOf s .terms .number) (narrow s (whole-long s (judged .0)) .number))
+  period-narrow = rw (period-number (noteNumbers s) n note-was) (twelve-bits (numberIn (noteNumbers s) Name.number) (let f = narrow in omega arith))
 
   pub note-writes : packedNote n (tableDays s) ≡ given s
   unfolding packedNote
   note-writes =
-      rw (period-narrow, table-kept s (judged .1), note-was .checked) (ap given (writes-same s (judged .0) (judged .1) (rawWith n) same-raw a))
+      rw (period-narrow, table-kept s (judged .1), note-passes (noteNumbers s) n note-was) (ap given (writes-same s (judged .0) (judged .1) (numbersOf n) same-numbers a))
 
 pub writes-back : (s : List ℕ) (p : Unpacked) → AreBytes s → unpacked s ≡ given p → packedNote (p .note) (p .days) ≡ given s
 unfolding unpacked

@@ -1,25 +1,24 @@
 -- Written and read: each gives back what the other took.
--- Assumes nothing.
 use Prim.Native.Nat.{ℕ}
 use mathlib.Core.Path.{_≡_, sym, ap, subst, _∙_}
 use mathlib.Core.List.{List}
 use lib.ListN.{take}
-use Rattle.paper.specs.Outcome.{given}
-use Rattle.paper.proofs.Outcomes.{given-injective, then-given}
+use Rattle.outcome.specs.Outcome.{given}
+use Rattle.outcome.proofs.Outcomes.{given-injective, then-given}
 use Rattle.bit_fields.specs.Bits.{AreBytes}
-use Rattle.bond.specs.declared.Note.{Note}
-use Rattle.packed.specs.Tables.{Unpacked, unpacked}
-use Rattle.packed_raw.specs.Fields.{rawWith}
-use Rattle.text.specs.Writing.{writtenLength, shownBytes}
-use Rattle.text.specs.declared.LengthAnswer.the-variants.{Length}
-use Rattle.text.proofs.Writers.{written-text}
-use Rattle.packed_write.specs.Writing.{packedNote, WritePromise}
+use Rattle.bond.specs.declared.note.Note.{Note}
+use Rattle.packed_read.specs.packed.Notes.{Unpacked, unpacked}
+use Rattle.packed_write.specs.numbers.Numbers.{numbersOf}
+use Rattle.number_text.specs.write.Writing.{writtenLength, shownBytes}
+use Rattle.number_text.specs.declared.write.LengthAnswer.the-variants.{Length}
+use Rattle.number_text.proofs.write.Writers.{written-text}
+use Rattle.packed_write.specs.packed.Writing.{packedNote, WritePromise}
 use Rattle.packed_round_trips.specs.RoundTrips.{InMachine, RoundTrips}
-use Rattle.packed_round_trips.proofs.Written.{was-packed, raw-bytes, reads-back}
+use Rattle.packed_round_trips.proofs.Written.{was-packed, record-bytes, reads-back}
 use Rattle.packed_round_trips.proofs.Read.{writes-back}
 
 written-bytes : (n : Note) (table s : List ℕ) → packedNote n table ≡ given s → AreBytes s
-written-bytes n table s e = subst AreBytes (was-packed n table s e .bytes) (raw-bytes (rawWith n) table)
+written-bytes n table s e = subst AreBytes (was-packed n table s e .bytes) (record-bytes (numbersOf n) table)
 
 written-reads : (n : Note) (table s : List ℕ) → InMachine n → packedNote n table ≡ given s → unpacked s ≡ given (record { note = n; days = table })
 written-reads n table s m e = let p = was-packed n table s e in ap unpacked (sym (p .bytes)) ∙ reads-back n table (p .note) (p .table-taken) m

@@ -1,9 +1,8 @@
 -- What is written reads back.
--- Assumes nothing.
 use Prim.Native.Nat.{ℕ, zero, suc, _+_, _-_, _*_, _/_, _%_}
 use mathlib.Core.Path.{_≡_, refl, sym, ap, _∙_}
 use mathlib.Core.Bool.{true}
-use mathlib.Core.List.{List, [], _∷_, _++_, append-nil}
+use mathlib.Core.List.{List, [], _∷_, _++_, append-assoc, append-nil, map}
 use native.Mathlib.Omega.{arith}
 use borrow.Author.Tests.{le-leb}
 use lib.Dec.{leb}
@@ -11,43 +10,35 @@ use lib.ListN.{length}
 use lib.IntN.{pos}
 use lib.Signed.{leZ}
 use lib.Pow.{pow-pos}
-use Rattle.paper.specs.Outcome.{given, andThen}
-use Rattle.paper.proofs.Lists.{every-append}
-use Rattle.paper.proofs.Outcomes.{given-injective, unless-given, then-given}
+use Rattle.outcome.specs.Outcome.{given, andThen}
+use Rattle.outcome.proofs.Outcomes.{given-injective, unless-given, then-given}
 use Rattle.bit_fields.specs.Bits.{inBits, fieldBits, fieldsBits, bitsOf, field, AreBytes}
-use Rattle.bit_fields.proofs.Bits.{fields-are, field-found}
-use Rattle.holidays.specs.Table.{ascendsFrom, isTable}
-use Rattle.holidays.proofs.Table.{ascends-cons, table-ascends, table-most}
-use Rattle.bond.specs.Notes.{noteChecks}
-use Rattle.bond.specs.declared.Note.{Note}
-use Rattle.bond.proofs.Ends.{passed}
-use Rattle.packed_numbers.specs.Numbers.{rawOf}
-use Rattle.packed_numbers.specs.declared.Raw.{Raw}
-use Rattle.packed_table.specs.Tables.{tableCount, daysFrom, tableDays, isWhole, isTableIn}
-use Rattle.packed_table.proofs.Tables.{exact}
-use Rattle.packed.specs.Tables.{noteInBytes, unpacked}
-use Rattle.packed_raw.specs.Fields.{numberFields, dateFields, couponFields, termsFields, lettersFields, rawWith}
-use Rattle.packed_raw.specs.Fits.{Fits, AllFit, RawFits, Packable}
-use Rattle.packed_raw.proofs.Accepted.{raw-fits}
-use Rattle.packed_write.specs.Fields.{headFields, middleFields, tailFields, rawFields, dayFields, tableFields, zerosBehind, rawBytes, recordBytes}
-use Rattle.packed_write.specs.Writing.{packedNote}
-use Rattle.packed_write.proofs.Answers.{note-packable}
-use Rattle.packed_write.proofs.Fields.{length-record, whole-bits, whole-bytes, bytes-length}
+use Rattle.bit_fields.proofs.Bits.{fields-are, fields-append, length-fields, field-found}
+use Rattle.business_days.specs.table.Table.{ascendsFrom, isTable}
+use Rattle.business_days.proofs.table.Table.{ascends-cons, table-ascends, table-most}
+use Rattle.bond.specs.note.Notes.{noteChecks}
+use Rattle.bond.specs.declared.note.Note.{Note}
+use Rattle.bond.proofs.note.Ends.{passed}
+use Rattle.packed_layout.specs.Layouts.{AllFit}
+use Rattle.packed_layout.specs.NoteLayout.{noteWidths, noteNumbers, noteFields, NumbersFit, tableFields, bitLength}
+use Rattle.packed_layout.proofs.Layouts.{read-put}
+use Rattle.packed_read.specs.table.Tables.{tableCount, daysFrom, tableDays, isWhole, isTableIn}
+use Rattle.packed_read.proofs.table.Tables.{exact}
+use Rattle.packed_read.specs.packed.Notes.{noteInBytes, unpacked}
+use Rattle.packed_write.specs.numbers.Numbers.{numbersOf}
+use Rattle.packed_write.specs.numbers.Packable.{Packable}
+use Rattle.packed_write.proofs.numbers.Accepted.{numbers-fit}
+use Rattle.packed_write.specs.packed.Fields.{zerosBehind, numbersBytes, recordBytes}
+use Rattle.packed_write.specs.packed.Writing.{packedNote}
+use Rattle.packed_write.proofs.packed.Answers.{note-packable}
+use Rattle.packed_write.proofs.packed.Fields.{length-record, whole-bits, whole-bytes, bytes-length}
 use Rattle.packed_round_trips.specs.RoundTrips.{InMachine}
-use Rattle.packed_round_trips.proofs.Found.{Found, found-in, found-first, found-later, raw-read, days-read}
+use Rattle.packed_round_trips.proofs.Tables.{table-read}
 use Rattle.packed_round_trips.proofs.Notes.{note-read}
 
--- ---- every number fits its bits
+-- ---- every day fits its bits
 
-raw-all : (r : Raw) → RawFits r → AllFit (rawFields r)
-raw-all r h =
-    every-append Fits (headFields r) (middleFields r ++ tailFields r)
-    (every-append Fits (numberFields r) (dateFields (r .issue) ++ dateFields (r .maturity)) (h .number) (every-append Fits (dateFields (r .issue)) (dateFields (r .maturity)) (h .issue) (h .maturity)))
-    (every-append Fits (middleFields r) (tailFields r)
-    (every-append Fits (couponFields (r .coupon)) (termsFields (r .terms) ++ (inBits 32 (r .denomination) ∷ [])) (h .coupon) (every-append Fits (termsFields (r .terms)) (inBits 32 (r .denomination) ∷ []) (h .terms) (h .denomination, omega arith)))
-    (h .rate, every-append Fits (lettersFields (r .letters)) (inBits 10 (r .spare) ∷ []) (h .letters) (h .spare, omega arith)))
-
-days-fit : (low : ℕ) (t : List ℕ) → ascendsFrom low t ≡ true → AllFit (dayFields t)
+days-fit : (low : ℕ) (t : List ℕ) → ascendsFrom low t ≡ true → AllFit (map (inBits 22) t)
 days-fit low [] e = omega arith
 days-fit low (d ∷ t) e = let a = ascends-cons low d t e in (omega (arith, a .1), days-fit (d + 1) t (a .2))
 
@@ -74,50 +65,54 @@ zeros-left l k n e f = by (n % 8) refl
     by zero g = rw (e, g) (omega arith)
     by (suc m) g = rw (e, g) (omega arith)
 
-module _ (r : Raw) (t : List ℕ) where
-  raw-bits : bitsOf (rawBytes r t) ≡ fieldsBits (rawFields r ++ tableFields t) ++ fieldBits (zerosBehind (length (fieldsBits (rawFields r ++ tableFields t)))) 0
-  unfolding rawBytes
-  raw-bits = whole-bits (fieldsBits (rawFields r ++ tableFields t)) (fields-are (rawFields r ++ tableFields t))
+module _ (ns t : List ℕ) where
+  record-bits : bitsOf (numbersBytes ns t) ≡ fieldsBits (noteFields ns ++ tableFields t) ++ fieldBits (zerosBehind (length (fieldsBits (noteFields ns ++ tableFields t)))) 0
+  unfolding numbersBytes
+  record-bits = whole-bits (fieldsBits (noteFields ns ++ tableFields t)) (fields-are (noteFields ns ++ tableFields t))
 
-  pub raw-bytes : AreBytes (rawBytes r t)
-  unfolding rawBytes
-  raw-bytes = whole-bytes (fieldsBits (rawFields r ++ tableFields t)) (fields-are (rawFields r ++ tableFields t))
+  pub record-bytes : AreBytes (numbersBytes ns t)
+  unfolding numbersBytes
+  record-bytes = whole-bytes (fieldsBits (noteFields ns ++ tableFields t)) (fields-are (noteFields ns ++ tableFields t))
 
   -- the zero bits to the byte
-  spare-zero : field (rawBytes r t) (256 + 22 * length t) (length (rawBytes r t) * 8 - (256 + 22 * length t)) ≡ 0
+  zeros-are : zerosBehind (length (fieldsBits (noteFields ns ++ tableFields t))) ≡ length (numbersBytes ns t) * 8 - bitLength (length t)
+  zeros-are = zeros-left (length (fieldsBits (noteFields ns ++ tableFields t))) (length (numbersBytes ns t)) (bitLength (length t)) (length-record ns t) (bytes-length ns t)
+
+  spare-zero : field (numbersBytes ns t) (bitLength (length t)) (length (numbersBytes ns t) * 8 - bitLength (length t)) ≡ 0
   spare-zero =
-      let w : ℕ = length (rawBytes r t) * 8 - (256 + 22 * length t) in
-      let e : zerosBehind (length (fieldsBits (rawFields r ++ tableFields t))) ≡ w = zeros-left (length (fieldsBits (rawFields r ++ tableFields t))) (length (rawBytes r t)) (256 + 22 * length t) (length-record r t) (bytes-length r t) in
-      let here : bitsOf (rawBytes r t) ≡ fieldsBits (rawFields r ++ tableFields t) ++ (fieldBits w 0 ++ []) = raw-bits ∙ ap (λ (x : List ℕ). fieldsBits (rawFields r ++ tableFields t) ++ x) (ap (λ (k : ℕ). fieldBits k 0) e ∙ sym (append-nil (fieldBits w 0))) in
-      field-found (rawBytes r t) (256 + 22 * length t) w 0 (fieldsBits (rawFields r ++ tableFields t)) [] here (length-record r t) (pow-pos w)
+      let w : ℕ = length (numbersBytes ns t) * 8 - bitLength (length t) in
+      let here : bitsOf (numbersBytes ns t) ≡ fieldsBits (noteFields ns ++ tableFields t) ++ (fieldBits w 0 ++ []) = record-bits ∙ ap (λ (x : List ℕ). fieldsBits (noteFields ns ++ tableFields t) ++ x) (ap (λ (k : ℕ). fieldBits k 0) zeros-are ∙ sym (append-nil (fieldBits w 0))) in
+      field-found (numbersBytes ns t) (bitLength (length t)) w 0 (fieldsBits (noteFields ns ++ tableFields t)) [] here (length-record ns t) (pow-pos w)
 
-  module _ (f : RawFits r) (g : isTable t ≡ true) where
-    all-found : Found (rawBytes r t) 0 (rawFields r ++ tableFields t)
-    all-found =
-        found-in (rawBytes r t) [] (fieldBits (zerosBehind (length (fieldsBits (rawFields r ++ tableFields t)))) 0) 0 (rawFields r ++ tableFields t) raw-bits refl
-        (every-append Fits (rawFields r) (tableFields t) (raw-all r f) (omega (arith, table-most t g), days-fit 1 t (table-ascends t g)))
+  module _ (l : length ns ≡ 20) (f : NumbersFit ns) (g : isTable t ≡ true) where
+    -- the note's bits, the table's and zeros
+    abbrev zeros : List ℕ
+    zeros = fieldBits (zerosBehind (length (fieldsBits (noteFields ns ++ tableFields t)))) 0
 
-    pub same-raw : rawOf (rawBytes r t) ≡ r
-    same-raw = raw-read (rawBytes r t) r (found-first (rawBytes r t) 0 (rawFields r) (tableFields t) all-found)
+    three-parts : bitsOf (numbersBytes ns t) ≡ fieldsBits (noteFields ns) ++ (fieldsBits (tableFields t) ++ zeros)
+    three-parts = record-bits ∙ ap (λ (x : List ℕ). x ++ zeros) (fields-append (noteFields ns) (tableFields t)) ∙ append-assoc (fieldsBits (noteFields ns)) (fieldsBits (tableFields t)) zeros
 
-    table-found : Found (rawBytes r t) 240 (tableFields t)
-    table-found = found-later (rawBytes r t) 0 (rawFields r) (tableFields t) all-found
+    pub same-numbers : noteNumbers (numbersBytes ns t) ≡ ns
+    same-numbers = read-put (numbersBytes ns t) [] (fieldsBits (tableFields t) ++ zeros) 0 0 noteWidths ns three-parts refl f l
 
-    pub same-days : tableDays (rawBytes r t) ≡ t
-    same-days = ap (daysFrom (rawBytes r t) 0) (table-found .0) ∙ days-read (rawBytes r t) 0 t (table-found .1)
+    table-found : (tableCount (numbersBytes ns t) ≡ length t) × (daysFrom (numbersBytes ns t) 0 (length t) ≡ t)
+    table-found = table-read (numbersBytes ns t) (fieldsBits (noteFields ns)) zeros t three-parts (length-fields (noteFields ns)) (omega (arith, table-most t g), days-fit 1 t (table-ascends t g))
 
-    pub whole : isWhole (rawBytes r t) ≡ true
-    whole = sym (exact (rawBytes r t) (length t) 0 (sym (table-found .0)) (omega (arith, bytes-length r t)) (table-most t g) (bytes-length r t) (sym spare-zero))
+    pub same-days : tableDays (numbersBytes ns t) ≡ t
+    same-days = ap (daysFrom (numbersBytes ns t) 0) (table-found .0) ∙ table-found .1
 
-    pub table-in : isTableIn (rawBytes r t) ≡ true
+    pub whole : isWhole (numbersBytes ns t) ≡ true
+    whole = sym (exact (numbersBytes ns t) (length t) 0 (sym (table-found .0)) (omega (arith, bytes-length ns t)) (table-most t g) (bytes-length ns t) (sym spare-zero))
+
+    pub table-in : isTableIn (numbersBytes ns t) ≡ true
     unfolding isTableIn
     table-in =
-        let few : leb (tableCount (rawBytes r t)) 4096 ≡ true = ap (λ (k : ℕ). leb k 4096) (table-found .0) ∙ le-leb (length t) 4096 (table-most t g) in
-        let same : isTable (tableDays (rawBytes r t)) ≡ true = ap isTable same-days ∙ g in
+        let few : leb (tableCount (numbersBytes ns t)) 4096 ≡ true = ap (λ (k : ℕ). leb k 4096) (table-found .0) ∙ le-leb (length t) 4096 (table-most t g) in
+        let same : isTable (tableDays (numbersBytes ns t)) ≡ true = ap isTable same-days ∙ g in
         rw (few, same)
 
 pub reads-back : (n : Note) (table : List ℕ) → Packable n → isTable table ≡ true → InMachine n → unpacked (recordBytes n table) ≡ given (record { note = n; days = table })
 unfolding unpacked noteInBytes
 reads-back n table p t m =
-    let f = raw-fits n p (m .0) (m .1) in
-    rw (whole (rawWith n) table f t, table-in (rawWith n) table f t, same-raw (rawWith n) table f t, note-read n p m, same-days (rawWith n) table f t)
+    let f = numbers-fit n p (m .0) (m .1) in
+    rw (whole (numbersOf n) table refl f t, table-in (numbersOf n) table refl f t, same-numbers (numbersOf n) table refl f t, note-read n p m, same-days (numbersOf n) table refl f t)

@@ -1,17 +1,17 @@
--- Written and read: each gives back what the other took, so no record has two notes and no note two records.
--- Assumes nothing.
+-- Written and read: each gives back what the other took, so no record has two notes and no note two
+-- records.
 use Prim.Native.Nat.{ℕ, _^_, _<_}
 use mathlib.Core.Path.{_≡_}
 use mathlib.Core.List.{List}
 use lib.ListN.{take}
 use lib.Dec.{T}
 use lib.Ieee.{binary64, fits}
-use Rattle.paper.specs.Outcome.{given}
+use Rattle.outcome.specs.Outcome.{given}
 use Rattle.bit_fields.specs.Bits.{AreBytes}
-use Rattle.bond.specs.declared.Note.{Note}
-use Rattle.packed.specs.Tables.{Unpacked, unpacked}
-use Rattle.text.specs.declared.LengthAnswer.the-variants.{Length}
-use Rattle.packed_write.specs.Writing.{packedNote, WritePromise}
+use Rattle.bond.specs.declared.note.Note.{Note}
+use Rattle.packed_read.specs.packed.Notes.{Unpacked, unpacked}
+use Rattle.number_text.specs.declared.write.LengthAnswer.the-variants.{Length}
+use Rattle.packed_write.specs.packed.Writing.{packedNote, WritePromise}
 
 -- a note as the machine holds it: a denomination of 32 bits, a rate that is an f64
 abbrev pub InMachine : Note → Type 0

@@ -1,3 +1,2 @@
-pub mod Fields
-pub mod Pens
-pub mod Writing
+pub mod numbers
+pub mod packed

@@ -1,104 +1,12 @@
-// Discounting at a flat rate with simple compounding: the factor and one cash flow.
-ghost use mathlib.Core.Path.{_≡_};
-ghost use Rattle.day_count_conv.specs.Conventions.{fractionOutcome};
-ghost use Rattle.cash_amount.specs.Amounts.{amountOutcome};
-ghost use Rattle.rates.specs.Rates.{fractionTo, isOneCurrency, flowValue, flowAdded, FactorPromise, FlowPromise};
-use calendar::Date;
-use cash_amount::AmountAnswer;
-use cash_amount::Currency;
-use cash_flow::CashFlow;
-use day_count_conv::DayCountConv;
-use day_count_conv::Extras;
-use day_count_conv::RollDate;
-use day_count_conv::RollPeriod;
-use day_count_conv::YearFraction;
-use rate_factors::is_finite;
-use rate_factors::is_rate;
-use rate_factors::simple_factor;
+// `Simple` discounting: the factor, one flow, and a stream as records or in plain lists.
+pub mod factors;
+pub mod plain;
+pub mod records;
+pub mod simple;
 
-// finql's `FlatRate` with `Compounding::Simple`, the one compounding that is carried over.
-pub struct FlatRate {
-    pub rate: f64,
-    pub day_count_conv: DayCountConv,
-    pub currency: Currency,
-}
-
-pub enum FactorAnswer {
-    Factor(f64),
-    Refused(u32),
-}
-
-// The year fraction, with no roll date and no period.
-fn fraction_to(rule: DayCountConv, today: Date, pay_date: Date) -> YearFraction
-    ensures { λ r. ⌜ fractionOutcome r ≡ fractionTo rule today «pay_date» ⌝ }
-{
-    let roll = RollDate::Absent;
-    let period = RollPeriod::Absent;
-    year_fractions::year_fraction(rule, today, pay_date, Extras { roll, period })
-}
-
-// The factor that discounts a payment at `pay_date` to `today`.
-pub fn discount_factor(rate: FlatRate, today: Date, pay_date: Date) -> FactorAnswer
-    ensures { λ r. ⌜ FactorPromise rate today «pay_date» r ⌝ }
-{
-    if !is_rate(rate.rate) {
-        return FactorAnswer::Refused(paper::NUMBER_OUT_OF_LIMITS);
-    }
-    let rule = rate.day_count_conv;
-    match fraction_to(rule, today, pay_date) {
-        YearFraction::Fraction(yf) => FactorAnswer::Factor(simple_factor(rate.rate, yf)),
-        YearFraction::Refused(n) => FactorAnswer::Refused(n),
-    }
-}
-
-// Both are currencies, and the same.
-fn is_one_currency(a: Currency, b: Currency) -> bool
-    ensures { λ r. ⌜ r ≡ isOneCurrency a b ⌝ }
-{
-    if !cash_amount::is_currency(a) {
-        return false;
-    }
-    if !cash_amount::is_currency(b) {
-        return false;
-    }
-    cash_amount::is_same_currency(a, b)
-}
-
-// One flow's value today, at a rate already judged.
-fn flow_value(rate: FlatRate, flow: CashFlow, today: Date) -> AmountAnswer
-    ensures { λ r. ⌜ amountOutcome r ≡ flowValue rate today flow ⌝ }
-{
-    if !is_finite(flow.amount) {
-        return AmountAnswer::Refused(paper::NUMBER_OUT_OF_LIMITS);
-    }
-    if !is_one_currency(rate.currency, flow.currency) {
-        return AmountAnswer::Refused(paper::BAD_CURRENCY);
-    }
-    let rule = rate.day_count_conv;
-    match fraction_to(rule, today, flow.date) {
-        YearFraction::Fraction(yf) => AmountAnswer::Amount(
-            simple_factor(rate.rate, yf) * flow.amount,
-        ),
-        YearFraction::Refused(n) => AmountAnswer::Refused(n),
-    }
-}
-
-// One flow's value today.
-pub fn discount_cash_flow(rate: FlatRate, flow: CashFlow, today: Date) -> AmountAnswer
-    ensures { λ r. ⌜ FlowPromise rate today flow r ⌝ }
-{
-    if !is_rate(rate.rate) {
-        return AmountAnswer::Refused(paper::NUMBER_OUT_OF_LIMITS);
-    }
-    flow_value(rate, flow, today)
-}
-
-// Inner: at a rate already judged. One flow more of a stream whose sum so far is given.
-pub fn flow_added(rate: FlatRate, flow: CashFlow, today: Date, sum: f64) -> AmountAnswer
-    ensures { λ r. ⌜ amountOutcome r ≡ flowAdded rate today sum flow ⌝ }
-{
-    match flow_value(rate, flow, today) {
-        AmountAnswer::Amount(x) => AmountAnswer::Amount(sum + x),
-        AmountAnswer::Refused(n) => AmountAnswer::Refused(n),
-    }
-}
+pub use plain::discount_plain_flows;
+pub use records::discount_cash_flow_stream;
+pub use simple::FactorAnswer;
+pub use simple::FlatRate;
+pub use simple::discount_cash_flow;
+pub use simple::discount_factor;

@@ -1,1 +1,3 @@
-pub mod Rollout
+pub mod plain
+pub mod buffer
+pub mod records

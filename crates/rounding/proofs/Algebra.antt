@@ -1,4 +1,4 @@
--- Arithmetic of whole numbers that the laws of rounding share. Assumes nothing.
+-- Arithmetic of whole numbers that the laws of rounding share.
 use Prim.Native.Nat.{ℕ, _+_, _*_, _≤_, _<_}
 use mathlib.Core.Path.{_≡_}
 use mathlib.Core.Bool.{Bool, true, false, not}
@@ -13,7 +13,8 @@ pub ruleset ring = (mul-add, add-mul, mul-assoc, mul-comm, mul-left-comm, one-mu
 abbrev pub Apart : ℕ → ℕ → ℕ → Type 0
 Apart p q e = (p ≤ q + e) × (q ≤ p + e)
 
--- a and b are at most m apart, p and q at most w: (a - b) * (p - q) is at most m * w, and no difference is taken
+-- a and b are at most m apart, p and q at most w: (a - b) * (p - q) is at most m * w, and no
+-- difference is taken
 pub cross : (a b m p q w : ℕ) → Apart a b m → Apart p q w → a * p + b * q ≤ a * q + b * p + m * w
 cross a b m p q w h k = go (leb b a) (leb→le b a) (nleb→lt b a)
   where
@@ -25,7 +26,8 @@ cross a b m p q w h k = go (leb b a) (leb→le b a) (nleb→lt b a)
     go true l g = let r = le-dest (l tt) in step a b (r .0) m p q w (r .1) (omega arith) (k .0)
     go false l g = let r = le-dest (le-of-lt (g tt)) in omega (arith, step b a (r .0) m q p w (r .1) (omega arith) (k .1))
 
--- A finite value is a sign and a size. Its signed size is a difference of two naturals that is never taken: `plusOf` less `minusOf`.
+-- A finite value is a sign and a size. Its signed size is a difference of two naturals that is
+-- never taken: `plusOf` less `minusOf`.
 abbrev pub plusOf : Bool → ℕ → ℕ
 plusOf false x = x
 plusOf true x = 0

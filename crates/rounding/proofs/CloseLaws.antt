@@ -1,4 +1,4 @@
--- From `Near` to `Close`, which is what a promise says, and back. Assumes nothing.
+-- From `Near` to `Close`, which is what a promise says, and back.
 use mathlib.Core.Path.{_≡_, refl, sym, ap, _∙_}
 use Prim.Native.Nat.{ℕ, _+_, _*_, _^_, _≤_, _<_}
 use native.Mathlib.Nat.{zero-mul, mul-comm, mul-pos, mul-le-mul-left, mul-le-mul-right, le-of-mul-le-mul-left}
@@ -69,7 +69,8 @@ near-close {x} {a} {b} {c} {k} {e} {N} {A} {B} X D w d q small =
           from-units d xn xp (minusOf s M) (plusOf s M) B A e n w unit fine mu pu unit-pos l (same-side c xn xp b a B A d e (X .den) (omega arith) (X .near .1)),
         )
 
--- an `f64` that is within 1 / w of N / d is near it, where N / d is at most k in size and 1 / w at most e / 2 ^ 100
+-- an `f64` that is within 1 / w of N / d is near it, where N / d is at most k in size and 1 / w at
+-- most e / 2 ^ 100
 pub close-near : (x : Float) {N : ℤ} {A B : ℕ} → T (fits binary64 x) → Diff N A B → (w d k e : ℕ) → 0 < w → 0 < d → A ≤ B + d * k → B ≤ A + d * k → 2 ^ 100 ≤ w * e
     → Close w x N d → Near x A B d k e
 close-near nan t D w d k e W P a b l c = absurd (c .0)

@@ -1,4 +1,5 @@
--- The definitions at numbers, by computing alone: `Close` holds of neither everything nor nothing, and operations round as IEEE 754 says. Assumes nothing.
+-- The definitions at numbers, by computing alone: `Close` holds of neither everything nor nothing,
+-- and operations round as IEEE 754 says.
 use mathlib.Core.Path.{_≡_, refl}
 use Prim.Native.Nat.{ℕ, _+_, _^_}
 use native.Mathlib.Nat.{not-le-of-lt}

@@ -1,4 +1,4 @@
--- An f64 by its exponent's field and its mantissa's: its value, or that it is not finite. Assumes nothing.
+-- An f64 by its exponent's field and its mantissa's: its value, or that it is not finite.
 use Prim.Native.Nat.{ℕ, zero, suc, _+_, _*_, _^_, _<_}
 use mathlib.Core.Path.{_≡_, refl, ap}
 use mathlib.Core.Bool.{Bool, true, false, cond}

@@ -1,5 +1,5 @@
--- An integer as a difference of two naturals that is never taken: from the numerator that a promise writes in ℤ to the pair that `Near` wants.
--- Assumes nothing.
+-- An integer as a difference of two naturals that is never taken: from the numerator that a promise
+-- writes in ℤ to the pair that `Near` wants.
 use mathlib.Core.Path.{_≡_, refl, ap}
 use Prim.Native.Nat.{ℕ, zero, suc, _+_, _-_, _*_, _≤_, _<_}
 use native.Mathlib.Nat.{add-comm, zero-add, add-zero, zero-mul, mul-zero}

@@ -1,4 +1,4 @@
--- The laws at numbers: none of them is empty. Assumes nothing.
+-- The laws at numbers: none of them is empty.
 use mathlib.Core.Path.{_≡_, refl, sym}
 use Prim.Native.Nat.{_*_, _^_, zero-le}
 use mathlib.Core.Bool.{true, false, true≢false}
@@ -17,7 +17,7 @@ use Rattle.rounding.proofs.Quotient.{near-div, near-quot}
 use Rattle.rounding.proofs.CloseLaws.{near-close, close-near}
 use Rattle.rounding.proofs.Range.{In}
 use Rattle.rounding.proofs.Zero.{near-zero, near-not-zero, close-not-zero}
-use Rattle.rounding.proofs.Gap.{gap-is}
+use Rattle.rounding.proofs.Difference.{gap-is}
 
 -- a quotient by a whole number
 third-near : Near (over (pos 1) 3) 1 0 (1 * 3) 1 (2 ^ 46)

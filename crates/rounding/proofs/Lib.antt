@@ -1,6 +1,6 @@
 pub mod Examples
 pub mod Algebra
-pub mod HalfUnit
+pub mod HalfUlp
 pub mod Operations
 pub mod Integers
 pub mod Near
@@ -9,6 +9,6 @@ pub mod Quotient
 pub mod CloseLaws
 pub mod Range
 pub mod Zero
-pub mod Gap
+pub mod Difference
 pub mod Fields
 pub mod LawExamples

@@ -1,8 +1,11 @@
--- `Near x a b d k e`: the `f64` x is finite, the fraction (a - b) / d is at most k in size, and x is within e / 2 ^ 100 of it.
--- All of it is over naturals: a signed number is a difference of two that is never taken. A chain of rules, one for each operation, bounds the error of a
--- computation: `near-int`, `near-add`, `near-sub`, `near-neg` here, `near-mul` in Product, `near-quot` and `near-div` in Quotient, `near-own` and
--- `near-close` in CloseLaws, `near-between` in Range. In each, t is chosen so that the exact result is below 2 ^ t, and its rounding costs 2 ^ (46 + t).
--- Assumes nothing.
+-- `Near x a b d k e`: the `f64` x is finite, the fraction (a - b) / d is at most k in size, and x
+-- is within e / 2 ^ 100 of it.
+-- All of it is over naturals: a signed number is a difference of two that is never taken. A chain
+-- of rules, one for each operation, bounds the error of a
+-- computation: `near-int`, `near-add`, `near-sub`, `near-neg` here, `near-mul` in Product,
+-- `near-quot` and `near-div` in Quotient, `near-own` and
+-- `near-close` in CloseLaws, `near-between` in Range. In each, t is chosen so that the exact result
+-- is below 2 ^ t, and its rounding costs 2 ^ (46 + t).
 use mathlib.Core.Path.{_≡_, refl, sym, ap, _∙_, subst}
 use Prim.Native.Nat.{ℕ, suc, _+_, _-_, _*_, _^_, _≤_, _<_}
 use native.Mathlib.Nat.{le-refl, le-trans, lt-of-le-of-lt, mul-one, mul-comm, mul-le-mul-left, mul-le-mul-right, mul-lt-mul-of-pos-right, le-of-mul-le-mul-left, mul-pos}
@@ -16,7 +19,8 @@ use Rattle.rounding.proofs.Algebra.{ring, Apart, plusOf, minusOf}
 use Rattle.rounding.proofs.Integers.{plus, minus, Diff}
 use Rattle.rounding.proofs.Operations.{Rounds, add-near, whole-value, neg-value, sub-is-add}
 
--- 1 is `unit` of the format's smallest value, and 2 ^ -100 is `fine` of it. Both stay shut, so that no proof computes with them.
+-- 1 is `unit` of the format's smallest value, and 2 ^ -100 is `fine` of it. Both stay shut, so that
+-- no proof computes with them.
 pub unit : ℕ
 unit = 2 ^ 1074
 
@@ -84,7 +88,8 @@ near-size {x} {a} {b} {d} {k} {e} X = go (X .sign) (X .size) (X .near .0) (X .ne
 abbrev pub Step : ℕ → ℕ → ℕ → ℕ → ℕ → ℕ → Type 0
 Step rp rn p n q t = q * rp + n ≤ q * rn + p + q * (2 ^ (46 + t) * fine)
 
--- a rounded result is `Near` a fraction, where each side of the rounding shows one side of the nearness
+-- a rounded result is `Near` a fraction, where each side of the rounding shows one side of the
+-- nearness
 pub landed : {z : Float} {p n q a b d k e : ℕ} (t : ℕ) → Rounds z unit p n q (2 ^ (1074 + t - prec binary64)) → 0 < d → Apart a b (d * k)
     → ((rp rn : ℕ) → Step rp rn p n q t → AtMost rp rn a b d e) → ((rp rn : ℕ) → Step rp rn n p q t → AtMost rp rn b a d e) → Near z a b d k e
 landed {z} {p} {n} {q} t R D B above below =

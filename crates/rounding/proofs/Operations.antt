@@ -1,5 +1,6 @@
--- Each operation in units of the format's smallest value: its exact result is a fraction (p - n) / q of units, and it is rounded once.
--- A finite value is a sign s and a whole number X of units, `HasValue x s X u`, with u units to 1. Assumes nothing.
+-- Each operation in units of the format's smallest value: its exact result is a fraction (p - n) /
+-- q of units, and it is rounded once.
+-- A finite value is a sign s and a whole number X of units, `HasValue x s X u`, with u units to 1.
 use mathlib.Core.Path.{_≡_, refl, sym, ap, ap₂, _∙_, subst, subst₂}
 use Prim.Native.Nat.{ℕ, zero, suc, _+_, _-_, _*_, _^_, _≤_, _<_}
 use native.Mathlib.Nat.{le-refl, le-trans, le-of-eq, le-of-lt, lt-of-lt-of-le, lt-of-not-le, not-le-of-lt, le-of-suc-le-suc, sub-add-cancel, mul-one, mul-comm, mul-assoc, mul-right-comm, mul-sub, mul-le-mul-left, mul-le-mul-right, mul-lt-mul-of-pos-right, le-of-mul-le-mul-left, le-of-mul-le-mul-right, lt-of-mul-lt-mul-right, mul-pos}
@@ -13,7 +14,7 @@ use lib.Ieee.Fits.{down-pos, reach, and-l, and-r}
 use lib.Ieee.Exact.{HasValue, round-exact}
 use lib.Ieee.Positive.{first-pos}
 use Rattle.rounding.proofs.Algebra.{ring, Apart, plusOf, minusOf}
-use Rattle.rounding.proofs.HalfUnit.{round-near}
+use Rattle.rounding.proofs.HalfUlp.{round-near}
 
 -- x is finite, and twice the distance of its units from (p - n) / q is at most e
 pub record Rounds (x : Float) (u p n q e : ℕ) : Type 0 where

@@ -1,4 +1,4 @@
--- The product of two values that are `Near` fractions, of either sign. Assumes nothing.
+-- The product of two values that are `Near` fractions, of either sign.
 use mathlib.Core.Path.{_≡_, refl, sym, _∙_, ap, ap₂, subst}
 use Prim.Native.Nat.{ℕ, _+_, _*_, _^_, _≤_, _<_}
 use native.Mathlib.Nat.{le-of-lt, mul-le-mul-left, mul-le-mul-right, mul-lt-mul-of-pos-left, mul-lt-mul-of-pos-right, mul-comm, mul-right-comm, le-of-mul-le-mul-left, eq-of-mul-eq-mul-right, mul-pos}
@@ -13,7 +13,8 @@ use Rattle.rounding.proofs.Algebra.{ring, Apart, cross, plusOf, minusOf
 use Rattle.rounding.proofs.Operations.{by-value, mul-near, whole-value}
 use Rattle.rounding.proofs.Near.{Near, unit, fine, unit-is, unit-pos, fine-pos, unit-low, scale, in-range, near-size, landed}
 
--- (x - a/d) * y + a/d * (y - c/q) is what the product is off by, and h its rounding: one side, with y at most m and a/d at most k in size
+-- (x - a/d) * y + a/d * (y - c/q) is what the product is off by, and h its rounding: one side, with
+-- y at most m and a/d at most k in size
 side : (rp rn xp xn yp yn a b d k e c g q f m h u v : ℕ) → 0 < u → u * rp + (xp * yn + xn * yp) ≤ u * rn + (xp * yp + xn * yn) + u * (h * v)
     → yp * (d * xp + b * u) + yn * (d * xn + a * u) ≤ yp * (d * xn + a * u) + yn * (d * xp + b * u) + m * u * (d * (e * v))
     → a * (q * yp + g * u) + b * (q * yn + c * u) ≤ a * (q * yn + c * u) + b * (q * yp + g * u) + d * k * (q * (f * v))

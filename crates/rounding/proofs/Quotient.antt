@@ -1,5 +1,5 @@
--- The quotient of two values that are `Near` fractions, where the divisor's is at least m, a whole number above 0; and by a whole number, which is exact.
--- Assumes nothing.
+-- The quotient of two values that are `Near` fractions, where the divisor's is at least m, a whole
+-- number above 0; and by a whole number, which is exact.
 use mathlib.Core.Path.{_≡_, refl, sym, ap, subst}
 use Prim.Native.Nat.{ℕ, _+_, _*_, _^_, _≤_, _<_, zero-le}
 use native.Mathlib.Nat.{lt-of-lt-of-le, lt-of-le-of-lt, mul-le-mul-left, mul-le-mul-right, mul-lt-mul-of-pos-right, le-of-mul-le-mul-left, lt-of-mul-lt-mul-left, mul-pos}
@@ -13,7 +13,8 @@ use Rattle.rounding.proofs.Algebra.{ring, Apart, cross, plusOf, minusOf
 use Rattle.rounding.proofs.Operations.{div-near}
 use Rattle.rounding.proofs.Near.{Near, unit, fine, unit-is, unit-pos, fine-pos, unit-low, scale, in-range, near-size, landed, near-int, near-same}
 
--- (x - a/d) / y + a/d * (c/q - y) / (y * c/q) is what the quotient is off by, and h its rounding: one side, for y of Z units
+-- (x - a/d) / y + a/d * (c/q - y) / (y * c/q) is what the quotient is off by, and h its rounding:
+-- one side, for y of Z units
 side : (rp rn xp xn a b d k e c q f Z e' h u v : ℕ) → 0 < Z → Z * rp + xn * u ≤ Z * rn + xp * u + Z * (h * v) → d * xp + b * u ≤ d * xn + a * u + d * (e * v)
     → a * (c * u) + b * (q * Z) ≤ a * (q * Z) + b * (c * u) + d * k * (q * (f * v)) → (c * e + k * q * f) * u ≤ c * Z * e'
     → d * c * rp + b * q * u ≤ d * c * rn + a * q * u + d * c * ((e' + h) * v)
@@ -45,7 +46,8 @@ module _ (k e f m k' e' t u v : ℕ) (U : u ≡ 2 ^ 100 * v) where
 
 module _ {x y : Float} {a b d k e c q l f : ℕ} (X : Near x a b d k e) (Y : Near y c 0 q l f) (m k' e' t : ℕ) (least : m * q ≤ c) (kk : k ≤ m * k')
     (ee : (e + k' * f) * 2 ^ 100 + f * e' ≤ m * 2 ^ 100 * e') (T : t ≤ 900) (room : k * 2 ^ 100 + e + 2 ^ t * f < 2 ^ t * m * 2 ^ 100) where
-  -- x / y is near the quotient of the fractions; its size is at most k', and e' is its error before it is rounded
+  -- x / y is near the quotient of the fractions; its size is at most k', and e' is its error before
+  -- it is rounded
   pub near-quot : Near (div binary64 x y) (a * q) (b * q) (d * c) k' (e' + 2 ^ (46 + t))
   near-quot =
       let xp = plusOf (X .sign) (X .size) in

@@ -1,4 +1,5 @@
--- A float that two comparisons of the code put between two others is `Near` the fraction that it means: it is no NaN and no infinity. Assumes nothing.
+-- A float that two comparisons of the code put between two others is `Near` the fraction that it
+-- means: it is no NaN and no infinity.
 use mathlib.Core.Path.{_≡_, refl, sym, _∙_, subst}
 use Prim.Native.Nat.{ℕ, _*_, _^_, _≤_, _<_, zero-le}
 use native.Mathlib.Nat.{le-refl, le-of-eq, le-of-lt, mul-le-mul-right, le-of-mul-le-mul-right}
@@ -20,7 +21,8 @@ one-of true w c a b l e t = le-of-lt (l tt)
 one-of false true c a b l e t = le-of-eq (e tt)
 one-of false false c a b l e t = absurd t
 
--- by `le`, a value of size a that is not negative is at most one of size b, and a negative one at least one of size b
+-- by `le`, a value of size a that is not negative is at most one of size b, and a negative one at
+-- least one of size b
 from-high : (t : Bool) (a b : ℕ) → T (below false a t b || level false a t b) → a ≤ b
 from-high false a b h = one-of (ltb a b) (eqb a b) true a b (ltb→lt a b) (eqb→eq a b) h
 from-high true a b h = one-of false (eqb a b) (eqb a 0) a b (λ t. absurd t) (eqb→eq a b) h

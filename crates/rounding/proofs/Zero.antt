@@ -1,5 +1,5 @@
--- Where the code's test `x == 0.0` holds of a computed float: never where the exact fraction is farther from 0 than the error, always where the fraction is 0 and the error too.
--- Assumes nothing.
+-- Where the code's test `x == 0.0` holds of a computed float: never where the exact fraction is
+-- farther from 0 than the error, always where the fraction is 0 and the error too.
 use mathlib.Core.Path.{_≡_, sym, ap}
 use Prim.Native.Nat.{ℕ, _+_, _*_, _^_, _≤_, _<_}
 use native.Mathlib.Nat.{le-of-eq, not-le-of-lt, le-of-mul-le-mul-left, le-of-mul-le-mul-right, eq-of-mul-eq-mul-right}

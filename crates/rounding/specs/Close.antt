@@ -1,5 +1,4 @@
 -- What a promise says of an `f64` beside an exact fraction of whole numbers.
--- Assumes nothing.
 use Prim.Native.Nat.{ℕ, _*_, _≤_}
 use mathlib.Core.Bool.{Bool, true, false}
 use lib.IntN.{ℤ, pos, negℤ, natAbs, _-ℤ_, _*ℤ_}
@@ -18,7 +17,8 @@ abbrev pub signed : Bool → ℕ → ℤ
 signed false m = pos m
 signed true m = negℤ (pos m)
 
--- a finite `f64` means its signed whole mantissa times a power of two, which is up e / down e: the fraction numerator / denominator
+-- a finite `f64` means its signed whole mantissa times a power of two, which is up e / down e: the
+-- fraction numerator / denominator
 abbrev pub numerator : Float → ℤ
 numerator nan = pos 0
 numerator (inf s) = pos 0
@@ -29,7 +29,8 @@ denominator nan = 1
 denominator (inf s) = 1
 denominator (fin s m e) = down e
 
--- the fractions a / b and n / d, with b and d above 0, are within 1 / w of each other, multiplied out by w * b * d
+-- the fractions a / b and n / d, with b and d above 0, are within 1 / w of each other, multiplied
+-- out by w * b * d
 abbrev pub Within : ℕ → ℤ → ℕ → ℤ → ℕ → Type 0
 Within w a b n d = natAbs (a *ℤ pos d -ℤ n *ℤ pos b) * w ≤ b * d
 

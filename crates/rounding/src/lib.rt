@@ -1,1 +1,2 @@
-// The laws of rounding have no code of their own: a crate that lists `rounding` cites its `specs/` and `proofs/`.
+// The laws of rounding, without code: a crate that lists `rounding` cites its `specs/` and
+// `proofs/`.

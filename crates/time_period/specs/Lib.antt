@@ -1,2 +1,2 @@
-pub mod Periods
-pub mod Steps
+pub mod steps
+pub mod added

@@ -1,101 +1,19 @@
-// Periods, as finql's time_period.rs: their inverse, and a step from a date.
-ghost use mathlib.Core.Path.{_≡_};
-ghost use mathlib.Core.Bool.{true};
-ghost use Rattle.paper.specs.Outcome.{andThen};
-ghost use Rattle.calendar.specs.Dates.{isDate};
-ghost use Rattle.calendar.specs.Answers.{dayOutcome, dateOutcome, dateOf};
-ghost use Rattle.holidays.specs.Table.{ascending};
-ghost use Rattle.time_period.specs.Steps.{absent, table, businessStep, stepped, InversePromise};
-use calendar::Date;
-use calendar::DateAnswer;
-use calendar::DayAnswer;
+// Periods: a step from a date, how often one comes in a year, and a period added or subtracted.
+pub mod added;
+pub mod frequencies;
+pub mod steps;
 
-pub enum TimePeriodUnit {
-    Daily,
-    BusinessDaily,
-    Weekly,
-    Monthly,
-    Annual,
-}
+pub use added::add_to;
+pub use added::add_to_with;
+pub use added::sub_from;
+pub use added::sub_from_with;
+pub use frequencies::FrequencyAnswer;
+pub use frequencies::frequency;
+pub use steps::PeriodAnswer;
+pub use steps::TimePeriod;
+pub use steps::TimePeriodUnit;
+pub use steps::UnitAnswer;
+pub use steps::inverse;
 
-pub struct TimePeriod {
-    pub num: i32,
-    pub unit: TimePeriodUnit,
-}
-
-pub enum PeriodAnswer {
-    Period(TimePeriod),
-    Refused(u32),
-}
-
-// How many of a period make a year.
-pub enum FrequencyAnswer {
-    Frequency(u32),
-    Refused(u32),
-}
-
-pub enum UnitAnswer {
-    Unit(TimePeriodUnit),
-    Refused(u32),
-}
-
-// The period with its number negated; the least number has no negative.
-pub fn inverse(p: TimePeriod) -> PeriodAnswer
-    ensures { λ r. ⌜ InversePromise p r ⌝ }
-{
-    let n = p.num;
-    if n == -2147483648 {
-        return PeriodAnswer::Refused(paper::INVALID_PERIOD);
-    }
-    let unit = p.unit;
-    PeriodAnswer::Period(TimePeriod { num: -n, unit })
-}
-
-// Inner: the step from a date that is already judged, so that a walk judges once.
-pub fn step(p: TimePeriod, t: Date) -> DateAnswer
-    requires { ⌜ isDate t ≡ true ⌝ }
-    ensures { λ r. ⌜ dateOutcome r ≡ stepped p absent t ⌝ }
-{
-    let unit = p.unit;
-    match unit {
-        TimePeriodUnit::Daily => date_step::days_later(t, p.num as i64),
-        TimePeriodUnit::BusinessDaily => DateAnswer::Refused(paper::MISSING_CALENDAR),
-        TimePeriodUnit::Weekly => date_step::days_later(t, 7 * p.num as i64),
-        TimePeriodUnit::Monthly => date_step::months_later(t, p.num),
-        TimePeriodUnit::Annual => date_step::years_later(t, p.num),
-    }
-}
-
-// The date of the day that a search found.
-fn dated(d: DayAnswer) -> DateAnswer
-    ensures { λ r. ⌜ dateOutcome r ≡ andThen (dayOutcome d) dateOf ⌝ }
-{
-    match d {
-        DayAnswer::Day(day) => serial_days::date_of(day),
-        DayAnswer::Refused(k) => DateAnswer::Refused(k),
-    }
-}
-
-fn step_business(n: i32, t: Date, holidays: &[u32]) -> DateAnswer
-    requires { ⌜ (isDate t ≡ true) × (ascending (now holidays) ≡ true) ⌝ }
-    ensures { λ r. ⌜ dateOutcome r ≡ businessStep n (table (now (holidays .entry))) t ⌝ }
-{
-    let day = march_years::number_of(t);
-    if n < 0 {
-        dated(business_walks::earlier_from(day, text::magnitude(n), holidays))
-    } else {
-        dated(business_walks::later_from(day, text::magnitude(n), holidays))
-    }
-}
-
-// Inner: the step from a date and over holidays that are already judged, with no limit to their number.
-pub fn step_with(p: TimePeriod, t: Date, holidays: &[u32]) -> DateAnswer
-    requires { ⌜ (isDate t ≡ true) × (ascending (now holidays) ≡ true) ⌝ }
-    ensures { λ r. ⌜ dateOutcome r ≡ stepped p (table (now (holidays .entry))) t ⌝ }
-{
-    let unit = p.unit;
-    if let TimePeriodUnit::BusinessDaily = unit {
-        return step_business(p.num, t, holidays);
-    }
-    step(p, t)
-}
+// Inner: for the crates of the register, which have judged what these ask for.
+pub use steps::step;

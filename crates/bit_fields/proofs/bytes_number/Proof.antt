@@ -1,5 +1,5 @@
--- `bit_fields::bytes_number` meets its contract. After each turn n is the number in the bytes so far.
--- Assumes nothing.
+-- `bit_fields::bytes_number` meets its contract. After each turn n is the number in the bytes so
+-- far.
 use Prim.Native.Nat.{_-_, _≤_, _<_}
 use mathlib.Core.Path.{_≡_, sym}
 use native.Mathlib.Nat.{lt-of-lt-of-le}

@@ -1,7 +1,6 @@
 -- `bit_fields::power_of_two` meets its contract: the shifted one does not wrap.
--- Assumes nothing.
 use borrow.Author.Needs.{needs}
-use Rattle.paper.proofs.Numbers.{shifted-one}
+use Rattle.outcome.proofs.Numbers.{shifted-one}
 use Rattle.bit_fields.proofs.power_of_two.Statement.{statement}
 use Rattle.bit_fields.proofs.power_of_two.Tie as tie
 

@@ -1,95 +1,51 @@
--- `bit_fields::put_field` meets its contract: the bits at hand and the field's go out as whole bytes, and fewer than eight stay.
--- Assumes nothing.
-use Prim.Native.Nat.{_-_}
-use mathlib.Core.Path.{refl}
+-- `bit_fields::put_field` meets its contract: one part, or two.
+use Prim.Native.Nat.{_-_, _+_}
+use mathlib.Core.Path.{_≡_}
 use native.Mathlib.Omega.{arith}
 use borrow.Author.Needs.{needs}
-use denote.Ref.{now}
-use lib.Pow.{pow-pos}
-use Rattle.bit_fields.proofs.Pens.{Flushed, flushed-none, flushed-place, flushed-byte, flushed-more, gathered-below, gathered-fits, drew-all}
+use lib.Pow.{shr-lt}
+use Rattle.bit_fields.proofs.BitWriters.{put-in-two}
 use Rattle.bit_fields.proofs.put_field.Statement.{statement}
 use Rattle.bit_fields.proofs.put_field.Tie as tie
 
-abbrev Inv-loop : tie.InvT-loop
-Inv-loop x width out₀ place₀ count₀ bits₀ out place count bits = Flushed out₀ place₀ count₀ bits₀ out place count bits
+put-part-requires : tie.Need-put-part-requires
+put-part-requires c κs = search needs
 
-abbrev μ-loop : tie.MeasureT-loop
-μ-loop x width out₀ place₀ count₀ bits₀ out place count bits = count
+same-length : tie.Need-same-length
+same-length c = search needs
 
-add-count : tie.Need-add-count Inv-loop μ-loop
-add-count c = search needs
+returns : tie.Need-returns
+returns c = search needs
 
-power-of-two-requires : tie.Need-power-of-two-requires Inv-loop μ-loop
-power-of-two-requires c κs = search needs
+sub-put-part : tie.Need-sub-put-part
+sub-put-part c = search needs
 
-mul-bits : tie.Need-mul-bits Inv-loop μ-loop
-mul-bits c =
-    let a = c .before .before .before .before .args in
-    let pre = c .before .before .before .before .pre in
-    record { fits = omega (arith, gathered-fits (a .pen) (a .width) (a .x) _ (pre .0) (pre .1) (pre .2) (c .before .power-of-two .ensures)) }
+put-part-requires-2 : tie.Need-put-part-requires-2
+put-part-requires-2 c κs =
+    let s = c .before .before .before in
+    let e : s .args .width - 32 + 32 ≡ s .args .width = omega arith in
+    (s .pre .0, omega arith, shr-lt (s .args .width - 32) 32 (rw (e) (s .pre .2)), omega arith)
 
-add-bits : tie.Need-add-bits Inv-loop μ-loop
-add-bits c =
-    let a = c .before .before .before .before .args in
-    let pre = c .before .before .before .before .pre in
-    record { fits = gathered-fits (a .pen) (a .width) (a .x) _ (pre .0) (pre .1) (pre .2) (c .before .power-of-two .ensures) }
+put-part-requires-3 : tie.Need-put-part-requires-3
+put-part-requires-3 c κs = search needs
 
-loop-holds : tie.Need-loop-holds Inv-loop μ-loop
-loop-holds c =
-    let a = c .before .before .before .before .args in
-    let pre = c .before .before .before .before .pre in
-    flushed-none (now (a .out)) (a .pen .place) _ _ (omega (arith, pre .0 .0, pre .1)) (gathered-below (a .pen) (a .width) (a .x) _ (pre .0) (pre .1) (pre .2) (c .before .power-of-two .ensures)) (omega (arith, pre .3))
+same-length-2 : tie.Need-same-length-2
+same-length-2 c = search needs
 
-shr-out : tie.Need-shr-out Inv-loop μ-loop
-shr-out c = omega arith
-
-cast-out : tie.Need-cast-out Inv-loop μ-loop
-cast-out c = record { fits = flushed-byte (c .before .loop .inv) (omega arith) }
-
-slice-write-out : tie.Need-slice-write-out Inv-loop μ-loop
-slice-write-out c = flushed-place (c .before .loop .inv) (omega arith)
-
-power-of-two-requires-2 : tie.Need-power-of-two-requires-2 Inv-loop μ-loop
-power-of-two-requires-2 c κs = omega (arith, c .before .loop .inv .small)
-
-rem-bits : tie.Need-rem-bits Inv-loop μ-loop
-rem-bits c = rw (c .power-of-two2 .ensures) (pow-pos (c .before .before .loop .count - 8))
-
-add-place : tie.Need-add-place Inv-loop μ-loop
-add-place c = omega arith
-
-loop-less : tie.Need-loop-less Inv-loop μ-loop
-loop-less c = omega arith
-
-loop-again : tie.Need-loop-again Inv-loop μ-loop
-loop-again c = flushed-more (c .before .before .loop .inv) (omega arith) _ _ refl (rw (c .power-of-two2 .ensures))
-
-same-length : tie.Need-same-length Inv-loop μ-loop
-same-length c = c .before .loop .inv .same-length
-
-returns : tie.Need-returns Inv-loop μ-loop
-returns c =
-    let s = c .before .before .before .before .before .before in
-    drew-all (s .args .pen) (s .args .width) (s .args .x) _ (s .pre .0) (s .pre .1) (s .pre .2) (c .before .before .before .power-of-two .ensures) (now (s .args .out)) _ _ _ _ (c .before .loop .inv) (omega arith)
+returns-2 : tie.Need-returns-2
+returns-2 c =
+    let s = c .before .before .before .before .before .before .before .before .before .before in
+    put-in-two (s .args .width) (s .args .x) (omega arith) (c .before .before .before .before .before .before .put-part2 .ensures) (c .before .before .put-part3 .ensures)
 
 pub put-field-spec : {M : Type 1} → statement M
 put-field-spec =
     tie.close
     (tie.spec
-    Inv-loop
-    μ-loop
-    add-count
-    power-of-two-requires
-    mul-bits
-    add-bits
-    loop-holds
-    shr-out
-    cast-out
-    slice-write-out
-    power-of-two-requires-2
-    rem-bits
-    add-place
-    loop-less
-    loop-again
+    put-part-requires
     same-length
-    returns)
+    returns
+    sub-put-part
+    put-part-requires-2
+    put-part-requires-3
+    same-length-2
+    returns-2)

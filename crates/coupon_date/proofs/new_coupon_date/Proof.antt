@@ -1,9 +1,9 @@
--- `coupon_date::new_coupon_date` meets its contract: each `return` is one of the checks, in their order.
--- Assumes nothing.
+-- `coupon_date::new_coupon_date` meets its contract: each `return` is one of the checks, in their
+-- order.
 use native.Mathlib.Omega.{arith}
 use borrow.Author.Tests.{le-leb, lt-leb}
 use borrow.Author.Needs.{needs}
-use Rattle.gregorian.specs.Gregorian.{monthLength}
+use Rattle.calendar.specs.gregorian.Gregorian.{monthLength}
 use Rattle.coupon_date.specs.Coupons.{couponDate}
 use Rattle.coupon_date.proofs.new_coupon_date.Statement.{statement}
 use Rattle.coupon_date.proofs.new_coupon_date.Tie as tie

@@ -1,5 +1,5 @@
--- `date_step::add_days` meets its contract: a move of more than the calendar leads out of it, and any other is that of a date already judged.
--- Assumes nothing.
+-- `date_step::add_days` meets its contract: a move of more than the calendar leads out of it, and
+-- any other is that of a date already judged.
 use Prim.Native.Nat.{ℕ}
 use mathlib.Core.Path.{_≡_, sym, _∙_, ap}
 use mathlib.Core.Bool.{Bool, true, false}
@@ -11,11 +11,11 @@ use mir.Val.{toZ, ofZ}
 use mir.Facts.{toZ-ofZ}
 use borrow.Author.Tests.{not-true, not-false}
 use borrow.Author.Needs.{needs}
-use Rattle.paper.specs.Outcome.{Outcome, refused, andThen}
-use Rattle.calendar.specs.Dates.{isDate, dayNumber}
-use Rattle.calendar.specs.Answers.{dateOf}
-use Rattle.calendar.proofs.Dates.{date-yes, number-to}
-use Rattle.date_step.specs.Steps.{landing, addDays, daysLater}
+use Rattle.outcome.specs.Outcome.{Outcome, refused, andThen}
+use Rattle.calendar.specs.dates.Dates.{isDate, dayNumber}
+use Rattle.calendar.specs.serial.Answers.{dateOf}
+use Rattle.calendar.proofs.dates.Dates.{date-yes, number-to}
+use Rattle.date_step.specs.Steps.{fromZeroTo, addDays, daysLater}
 use Rattle.date_step.proofs.Landing.{far-back, far-on, near}
 use Rattle.date_step.proofs.add_days.Statement.{statement}
 use Rattle.date_step.proofs.add_days.Tie as tie
@@ -30,7 +30,7 @@ undated c = sym (c .before .is-date .ensures) ∙ not-true _ (c .if1 .taken)
 dated : (c : tie.Else1) → isDate (c .before .before .args .t) ≡ true
 dated c = sym (c .before .is-date .ensures) ∙ not-false _ (c .if1 .left)
 
-out : (c : tie.Else1) → refused 1 ≡ landing 3652059 (pos (dayNumber (c .before .before .args .t)) +ℤ c .before .before .args .n) → refused 1 ≡ addDays (c .before .before .args .t) (c .before .before .args .n)
+out : (c : tie.Else1) → refused 1 ≡ fromZeroTo 3652059 (pos (dayNumber (c .before .before .args .t)) +ℤ c .before .before .args .n) → refused 1 ≡ addDays (c .before .before .args .t) (c .before .before .args .n)
 unfolding addDays daysLater
 out c e = rw (dated c) (ap (λ (o : Outcome ℕ). andThen o (λ k. dateOf (record { 0 = k }))) e)
 

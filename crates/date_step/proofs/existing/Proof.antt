@@ -1,5 +1,4 @@
 -- `date_step::existing` meets its contract: the test that led to each `return` is the definition's.
--- Assumes nothing.
 use mathlib.Core.Path.{sym, _∙_}
 use borrow.Author.Needs.{needs}
 use Rattle.date_step.specs.Steps.{existingDate}

@@ -1,12 +1,11 @@
 -- `date_step::in_month` meets its contract: the day is cut where the month is shorter.
--- Assumes nothing.
 use Prim.Native.Nat.{ℕ, _+_, _/_, _%_}
 use mathlib.Core.Path.{ap}
 use native.Mathlib.Omega.{arith}
 use borrow.Author.Needs.{needs}
-use Rattle.calendar.specs.Dates.{monthDate}
-use Rattle.calendar.specs.declared.Date.{Date}
-use Rattle.gregorian.proofs.Months.{at-least}
+use Rattle.calendar.specs.dates.Dates.{monthDate}
+use Rattle.calendar.specs.declared.dates.Date.{Date}
+use Rattle.calendar.proofs.gregorian.Months.{at-least}
 use Rattle.date_step.proofs.in_month.Statement.{statement}
 use Rattle.date_step.proofs.in_month.Tie as tie
 

@@ -1,34 +1,33 @@
 -- `date_step::years_later` meets its contract: the year is moved, and the date is one or not.
--- Assumes nothing.
 use Prim.Native.Nat.{ℕ}
 use mathlib.Core.Path.{_≡_, sym, _∙_, ap}
 use native.Mathlib.Omega.{arith}
 use lib.IntN.{ℤ, pos, _+ℤ_}
 use borrow.Author.Needs.{needs}
-use Rattle.paper.specs.Outcome.{Outcome, given, andThen}
-use Rattle.date_step.specs.Steps.{placeOutcome, landing, existingDate, yearsLater}
-use Rattle.calendar.specs.declared.Date.{Date}
-use Rattle.paper.proofs.Numbers.{widened, wide-fits}
+use Rattle.outcome.specs.Outcome.{Outcome, given, andThen}
+use Rattle.date_step.specs.Steps.{movedOutcome, fromZeroTo, existingDate, yearsLater}
+use Rattle.calendar.specs.declared.dates.Date.{Date}
+use Rattle.outcome.proofs.Numbers.{widened, wide-fits}
 use Rattle.date_step.proofs.Landing.{wide-short}
-use Rattle.calendar.proofs.Dates.{date-yes}
+use Rattle.calendar.proofs.dates.Dates.{date-yes}
 use Rattle.date_step.proofs.years_later.Statement.{statement}
 use Rattle.date_step.proofs.years_later.Tie as tie
 
 -- the number reached
-moved : (c : tie.After-land) → placeOutcome (c .land .result) ≡ landing 9999 (pos (c .before .args .t .year) +ℤ c .before .args .n)
+moved : (c : tie.After-moved) → movedOutcome (c .moved .result) ≡ fromZeroTo 9999 (pos (c .before .args .t .year) +ℤ c .before .args .n)
 moved c =
     let s = c .before in
-    c .land .ensures ∙ ap (λ (z : ℤ). landing 9999 (pos (s .args .t .year) +ℤ z)) (widened (s .args .n) (s .fits .n))
+    c .moved .ensures ∙ ap (λ (z : ℤ). fromZeroTo 9999 (pos (s .args .t .year) +ℤ z)) (widened (s .args .n) (s .fits .n))
 
 -- the same month and day of a year
 abbrev on : Date → ℕ → Outcome Date
 on t y = existingDate (record { year = y; month = t .month; day = t .day })
 
-cast-land : tie.Need-cast-land
-cast-land c = wide-fits _ (c .fits .n)
+cast-moved : tie.Need-cast-moved
+cast-moved c = wide-fits _ (c .fits .n)
 
-land-requires : tie.Need-land-requires
-land-requires c κs =
+moved-requires : tie.Need-moved-requires
+moved-requires c κs =
     let h = date-yes (c .args .t) (c .pre) in
     (omega (arith, h .year-to), omega arith, wide-short _ (c .fits .n))
 
@@ -46,21 +45,21 @@ unfolding yearsLater
 returns c =
     let p = c .before .before in
     let s = p .before .before .before in
-    c .existing .ensures ∙ ap (λ (o : Outcome ℕ). andThen o (on (s .args .t))) (ap placeOutcome (sym (p .year .given .1)) ∙ moved (p .before .before))
+    c .existing .ensures ∙ ap (λ (o : Outcome ℕ). andThen o (on (s .args .t))) (ap movedOutcome (sym (p .year .given .1)) ∙ moved (p .before .before))
 
 returns-2 : tie.Need-returns-2
 unfolding yearsLater
 returns-2 c =
     let p = c .before in
     let s = p .before .before .before in
-    ap (λ (o : Outcome ℕ). andThen o (on (s .args .t))) (ap placeOutcome (sym (p .k .given .1)) ∙ moved (p .before .before))
+    ap (λ (o : Outcome ℕ). andThen o (on (s .args .t))) (ap movedOutcome (sym (p .k .given .1)) ∙ moved (p .before .before))
 
 pub years-later-spec : {M : Type 1} → statement M
 years-later-spec =
     tie.close
     (tie.spec
-    cast-land
-    land-requires
+    cast-moved
+    moved-requires
     enum-known-year
     existing-requires
     enum-known-k

@@ -1,5 +1,4 @@
 -- `day_adjust::adjust_at` meets its contract: a business day stays, and any other moves.
--- Assumes nothing.
 use mathlib.Core.Path.{sym, _∙_}
 use borrow.Author.Needs.{needs}
 use Rattle.day_adjust.proofs.Adjusting.{judged-at, open-stays, shut-moves}

@@ -1,5 +1,5 @@
--- `day_adjust::ahead_date` meets its contract: ahead first, and back where the month differs and may not.
--- Assumes nothing.
+-- `day_adjust::ahead_date` meets its contract: ahead first, and back where the month differs and
+-- may not.
 use Prim.Native.Nat.{ℕ}
 use mathlib.Core.Path.{_≡_, sym, _∙_, ap}
 use mathlib.Core.Bool.{Bool, true, false, _||_}
@@ -7,9 +7,9 @@ use mathlib.Core.List.{List}
 use lib.Dec.{eqb}
 use borrow.Author.Tests.{eq-eqb, ne-eqb}
 use borrow.Author.Needs.{needs}
-use Rattle.paper.specs.Outcome.{Outcome, given, refused, andThen, pick}
-use Rattle.calendar.specs.Answers.{dateOutcome}
-use Rattle.calendar.specs.declared.Date.{Date}
+use Rattle.outcome.specs.Outcome.{Outcome, given, refused, andThen, pick}
+use Rattle.calendar.specs.serial.Answers.{dateOutcome}
+use Rattle.calendar.specs.declared.dates.Date.{Date}
 use Rattle.day_adjust.specs.Adjustment.{nextDate, prevDate}
 use Rattle.day_adjust.proofs.ahead_date.Statement.{statement}
 use Rattle.day_adjust.proofs.ahead_date.Tie as tie

@@ -1,11 +1,10 @@
 -- `day_adjust::date_near` meets its contract: laws of Near.
--- Assumes nothing.
 use mathlib.Core.Path.{sym, _∙_}
 use native.Mathlib.Omega.{arith}
 use borrow.Author.Tests.{leb-true}
 use borrow.Author.Needs.{needs}
-use Rattle.calendar.proofs.Dates.{date-yes}
-use Rattle.gregorian.proofs.Months.{at-most}
+use Rattle.calendar.proofs.dates.Dates.{date-yes}
+use Rattle.calendar.proofs.gregorian.Months.{at-most}
 use Rattle.day_adjust.proofs.Near.{month-on, month-back}
 use Rattle.day_adjust.proofs.date_near.Statement.{statement}
 use Rattle.day_adjust.proofs.date_near.Tie as tie
@@ -21,8 +20,8 @@ returns c =
     let s = c .before .before .before .before in
     month-back (s .args .t) (s .args .n) (s .args .at) (s .pre .0) (s .pre .1) (c .before .before .before .if1 .taken) (c .before .if2 .taken)
 
-date-on-requires : tie.Need-date-on-requires
-date-on-requires c κs = search needs
+date-of-day-requires : tie.Need-date-of-day-requires
+date-of-day-requires c κs = search needs
 
 returns-2 : tie.Need-returns-2
 returns-2 c = search needs
@@ -44,8 +43,8 @@ returns-3 c =
     let s = c .before .before .before .before in
     month-on (s .args .t) (s .args .n) (s .args .at) (s .pre .0) (s .pre .1) (c .before .before .before .if1 .left) (leb-true _ _ (sym (c .before .reaches .ensures) ∙ c .if3 .taken))
 
-date-on-requires-2 : tie.Need-date-on-requires-2
-date-on-requires-2 c κs = search needs
+date-of-day-requires-2 : tie.Need-date-of-day-requires-2
+date-of-day-requires-2 c κs = search needs
 
 returns-4 : tie.Need-returns-4
 returns-4 c = search needs
@@ -57,10 +56,10 @@ date-near-spec =
     sub-back
     sub-t8
     returns
-    date-on-requires
+    date-of-day-requires
     returns-2
     add-day
     reaches-requires
     returns-3
-    date-on-requires-2
+    date-of-day-requires-2
     returns-4)

@@ -1,9 +1,8 @@
 -- `day_adjust::moved_date` meets its contract: each rule has its case.
--- Assumes nothing.
 use mathlib.Core.Path.{sym, _∙_, ap}
 use borrow.Author.Needs.{needs}
-use Rattle.paper.specs.Outcome.{given}
-use Rattle.paper.proofs.Outcomes.{then-same}
+use Rattle.outcome.specs.Outcome.{given}
+use Rattle.outcome.proofs.Outcomes.{then-same}
 use Rattle.day_adjust.specs.Adjustment.{nextDate, modifiedDate, movedDate}
 use Rattle.day_adjust.specs.declared.DayAdjust.{DayAdjust}
 use Rattle.day_adjust.proofs.moved_date.Statement.{statement}

@@ -1,16 +1,16 @@
--- `day_adjust::next_date` meets its contract: the search, and the date of the day it found, which is one of the calendar.
--- Assumes nothing.
+-- `day_adjust::next_date` meets its contract: the search, and the date of the day it found, which
+-- is one of the calendar.
 use Prim.Native.Nat.{_≤_}
 use mathlib.Core.Path.{_≡_, sym, _∙_, ap}
 use native.Mathlib.Omega.{arith}
 use borrow.Author.Needs.{needs}
-use Rattle.paper.specs.Outcome.{Outcome, given, andThen}
-use Rattle.calendar.specs.Answers.{dayOutcome, dateOf}
-use Rattle.calendar.specs.declared.Day.{Day}
-use Rattle.holidays.specs.Business.{nextFrom}
-use Rattle.holidays.proofs.Days.{next-gives}
+use Rattle.outcome.specs.Outcome.{Outcome, given, andThen}
+use Rattle.calendar.specs.serial.Answers.{dayOutcome, dateOf}
+use Rattle.calendar.specs.declared.dates.Day.{Day}
+use Rattle.business_days.specs.table.Business.{nextFrom}
+use Rattle.business_days.proofs.table.Days.{next-gives}
 use Rattle.day_adjust.specs.Adjustment.{nextDate}
-use Rattle.calendar.proofs.Inverse.{date-on-day}
+use Rattle.calendar.proofs.dates.Inverse.{date-on-day}
 use Rattle.day_adjust.proofs.Adjusting.{judged-at}
 use Rattle.day_adjust.proofs.next_date.Statement.{statement}
 use Rattle.day_adjust.proofs.next_date.Tie as tie

@@ -1,16 +1,16 @@
--- `day_adjust::prev_date` meets its contract: the search, and the date of the day it found, which is one of the calendar.
--- Assumes nothing.
+-- `day_adjust::prev_date` meets its contract: the search, and the date of the day it found, which
+-- is one of the calendar.
 use Prim.Native.Nat.{_≤_}
 use mathlib.Core.Path.{_≡_, sym, _∙_, ap}
 use native.Mathlib.Omega.{arith}
 use borrow.Author.Needs.{needs}
-use Rattle.paper.specs.Outcome.{Outcome, given, andThen}
-use Rattle.calendar.specs.Answers.{dayOutcome, dateOf}
-use Rattle.calendar.specs.declared.Day.{Day}
-use Rattle.holidays.specs.Business.{prevFrom}
-use Rattle.holidays.proofs.Days.{prev-gives}
+use Rattle.outcome.specs.Outcome.{Outcome, given, andThen}
+use Rattle.calendar.specs.serial.Answers.{dayOutcome, dateOf}
+use Rattle.calendar.specs.declared.dates.Day.{Day}
+use Rattle.business_days.specs.table.Business.{prevFrom}
+use Rattle.business_days.proofs.table.Days.{prev-gives}
 use Rattle.day_adjust.specs.Adjustment.{prevDate}
-use Rattle.calendar.proofs.Inverse.{date-on-day}
+use Rattle.calendar.proofs.dates.Inverse.{date-on-day}
 use Rattle.day_adjust.proofs.Adjusting.{judged-at}
 use Rattle.day_adjust.proofs.prev_date.Statement.{statement}
 use Rattle.day_adjust.proofs.prev_date.Tie as tie

@@ -1,12 +1,12 @@
--- `day_adjust::reaches` meets its contract: every month has 28 days, and past them its length decides.
--- Assumes nothing.
+-- `day_adjust::reaches` meets its contract: every month has 28 days, and past them its length
+-- decides.
 use mathlib.Core.Path.{sym, ap}
 use native.Mathlib.Omega.{arith}
 use lib.Dec.{leb}
 use borrow.Author.Tests.{le-leb}
 use borrow.Author.Needs.{needs}
-use Rattle.gregorian.specs.Gregorian.{monthLength}
-use Rattle.gregorian.proofs.Months.{at-least}
+use Rattle.calendar.specs.gregorian.Gregorian.{monthLength}
+use Rattle.calendar.proofs.gregorian.Months.{at-least}
 use Rattle.day_adjust.proofs.reaches.Statement.{statement}
 use Rattle.day_adjust.proofs.reaches.Tie as tie
 

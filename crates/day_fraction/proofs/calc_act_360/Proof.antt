@@ -1,5 +1,5 @@
--- `day_fraction::calc_act_360` meets its contract: the days are a whole number, and so is the divisor.
--- Assumes nothing.
+-- `day_fraction::calc_act_360` meets its contract: the days are a whole number, and so is the
+-- divisor.
 use borrow.Author.Needs.{needs}
 use Rattle.day_fraction.specs.Fractions.{bits}
 use Rattle.day_fraction.proofs.Written.{over-by, lit360}

@@ -1,8 +1,8 @@
--- `day_fraction::calc_act_365_leap` meets its contract: every number is that of `leapBits`, and so is the order of the operations.
--- Assumes nothing.
+-- `day_fraction::calc_act_365_leap` meets its contract: every number is that of `leapBits`, and so
+-- is the order of the operations.
 use native.Mathlib.Omega.{arith}
 use borrow.Author.Needs.{needs}
-use Rattle.calendar.proofs.Dates.{date-yes}
+use Rattle.calendar.proofs.dates.Dates.{date-yes}
 use Rattle.day_fraction.specs.Fractions.{bits}
 use Rattle.day_fraction.proofs.calc_act_365_leap.Statement.{statement}
 use Rattle.day_fraction.proofs.calc_act_365_leap.Tie as tie
@@ -14,16 +14,16 @@ signed-difference-requires c κs =
     let e = date-yes (a .end) (c .pre .last) in
     (omega arith, omega arith)
 
-gone-requires : tie.Need-gone-requires
-gone-requires c κs = search needs
+part-of-year-elapsed-requires : tie.Need-part-of-year-elapsed-requires
+part-of-year-elapsed-requires c κs = search needs
 
-gone-requires-2 : tie.Need-gone-requires-2
-gone-requires-2 c κs = search needs
+part-of-year-elapsed-requires-2 : tie.Need-part-of-year-elapsed-requires-2
+part-of-year-elapsed-requires-2 c κs = search needs
 
 returns : tie.Need-returns
 unfolding bits
-returns c = rw (c .before .before .signed-difference .ensures, c .before .gone .ensures, c .gone2 .ensures)
+returns c = rw (c .before .before .signed-difference .ensures, c .before .part-of-year-elapsed .ensures, c .part-of-year-elapsed2 .ensures)
 
 pub calc-act-365-leap-spec : {M : Type 1} → statement M
 calc-act-365-leap-spec =
-    tie.close (tie.spec signed-difference-requires gone-requires gone-requires-2 returns)
+    tie.close (tie.spec signed-difference-requires part-of-year-elapsed-requires part-of-year-elapsed-requires-2 returns)

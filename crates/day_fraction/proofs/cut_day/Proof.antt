@@ -1,5 +1,4 @@
 -- `day_fraction::cut_day` meets its contract: the test is that of `cut`.
--- Assumes nothing.
 use borrow.Author.Tests.{eq-eqb, ne-eqb}
 use Rattle.day_fraction.proofs.cut_day.Statement.{statement}
 use Rattle.day_fraction.proofs.cut_day.Tie as tie

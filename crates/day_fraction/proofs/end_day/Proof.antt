@@ -1,5 +1,4 @@
 -- `day_fraction::end_day` meets its contract: the tests are those of `endDay`.
--- Assumes nothing.
 use borrow.Author.Tests.{eq-eqb, ne-eqb}
 use borrow.Author.Needs.{needs}
 use Rattle.day_fraction.proofs.end_day.Statement.{statement}

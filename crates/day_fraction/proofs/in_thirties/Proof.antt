@@ -1,8 +1,8 @@
--- `day_fraction::in_thirties` meets its contract: three signed differences, divided and added in the order of `thirtiesBits`.
--- Assumes nothing.
+-- `day_fraction::in_thirties` meets its contract: three signed differences, divided and added in
+-- the order of `thirtiesBits`.
 use native.Mathlib.Omega.{arith}
 use borrow.Author.Needs.{needs}
-use Rattle.calendar.proofs.Dates.{date-yes}
+use Rattle.calendar.proofs.dates.Dates.{date-yes}
 use Rattle.day_fraction.proofs.Written.{thirties-written}
 use Rattle.day_fraction.proofs.in_thirties.Statement.{statement}
 use Rattle.day_fraction.proofs.in_thirties.Tie as tie

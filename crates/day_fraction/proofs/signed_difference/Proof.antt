@@ -1,11 +1,11 @@
--- `day_fraction::signed_difference` meets its contract: the difference of two small numbers fits, and is theirs.
--- Assumes nothing.
+-- `day_fraction::signed_difference` meets its contract: the difference of two small numbers fits,
+-- and is theirs.
 use Prim.Native.Nat.{_<_, _^_}
 use mathlib.Core.Path.{ap}
 use native.Mathlib.Omega.{arith}
 use lib.Ieee.{binary64, ofInt}
 use borrow.Author.Needs.{needs}
-use Rattle.rounding.proofs.Gap.{gap-fits, gap-is}
+use Rattle.rounding.proofs.Difference.{gap-fits, gap-is}
 use Rattle.day_fraction.proofs.signed_difference.Statement.{statement}
 use Rattle.day_fraction.proofs.signed_difference.Tie as tie
 

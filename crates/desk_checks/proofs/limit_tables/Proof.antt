@@ -1,5 +1,4 @@
 -- `desk_checks::limit_tables` is safe: 4,096 of 4,097 days are lent.
--- Assumes nothing.
 use Prim.Native.Nat.{ℕ}
 use mathlib.Core.Path.{_≡_, sym}
 use mathlib.Core.List.{List}

@@ -1,5 +1,5 @@
--- `desk_checks::listed` meets its contract: each place is written once, and no day is past the calendar's numbers.
--- Assumes nothing.
+-- `desk_checks::listed` meets its contract: each place is written once, and no day is past the
+-- calendar's numbers.
 use Prim.Native.Nat.{_≤_, _+_, _-_}
 use mathlib.Core.Path.{_≡_, sym, _∙_}
 use native.Mathlib.Omega.{arith}

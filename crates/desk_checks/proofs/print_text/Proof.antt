@@ -1,5 +1,4 @@
 -- `desk_checks::print_text` is safe and ends: each byte is met once.
--- Assumes nothing.
 use Prim.Native.Nat.{_≤_, _-_}
 use native.Mathlib.Omega.{arith}
 use lib.ListN.{length}

@@ -1,5 +1,4 @@
 -- `every_day::main` is safe and ends: each day is met once, and no more days agree than were met.
--- Assumes nothing.
 use Prim.Native.Nat.{_≤_, _<_, _-_}
 use mathlib.Core.Logic.{⊎-elim}
 use native.Mathlib.Omega.{arith}

@@ -1,0 +1,2 @@
+pub mod HandOver
+pub mod Coded

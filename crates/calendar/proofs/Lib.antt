@@ -1,5 +1,0 @@
-pub mod Dates
-pub mod Order
-pub mod Inverse
-pub mod Examples
-pub mod OneOutcome

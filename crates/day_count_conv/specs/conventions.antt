@@ -1,0 +1,2 @@
+pub mod Conventions
+pub mod Whole

@@ -1,0 +1,4 @@
+pub mod date
+pub mod amount
+pub mod flow
+pub mod refusal

@@ -1,4 +1,0 @@
-pub mod Table
-pub mod Business
-pub mod Answers
-pub mod Search

@@ -1,3 +1,0 @@
-pub mod Walking
-pub mod Laws
-pub mod Leaps

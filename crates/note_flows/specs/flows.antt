@@ -1,0 +1,2 @@
+pub mod NoteFlows
+pub mod Turns

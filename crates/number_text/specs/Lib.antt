@@ -1,0 +1,3 @@
+pub mod read
+pub mod length
+pub mod write

@@ -1,0 +1,5 @@
+pub mod Lists
+pub mod Outcome
+pub mod Walks
+pub mod Room
+pub mod Signs

@@ -1,0 +1,3 @@
+pub mod table
+pub mod note
+pub mod packed

@@ -1,5 +1,0 @@
-pub mod Lists
-pub mod Numbers
-pub mod Outcomes
-pub mod Tallies
-pub mod Walks

@@ -1,0 +1,60 @@
+-- `replay::notes::put_holidays` is safe and ends.
+use Prim.Native.Nat.{_≤_, _-_}
+use mathlib.Core.Path.{_≡_}
+use lib.ListN.{length}
+use borrow.Author.Needs.{needs}
+use Rattle.replay.proofs.notes.put_holidays.Statement.{statement}
+use Rattle.replay.proofs.notes.put_holidays.Tie as tie
+
+abbrev Inv-loop : tie.InvT-loop
+Inv-loop s out₀ at next₀ i₀ out next i = (i ≤ length s) × (length out ≡ length out₀)
+
+abbrev μ-loop : tie.MeasureT-loop
+μ-loop s out₀ at next₀ i₀ out next i = length s - i
+
+loop-holds : tie.Need-loop-holds Inv-loop μ-loop
+loop-holds c = search needs
+
+mul-holiday : tie.Need-mul-holiday Inv-loop μ-loop
+mul-holiday c = search needs
+
+shared-slice-read-holiday : tie.Need-shared-slice-read-holiday Inv-loop μ-loop
+shared-slice-read-holiday c = search needs
+
+holiday-requires : tie.Need-holiday-requires Inv-loop μ-loop
+holiday-requires c κs = search needs
+
+put-row-requires : tie.Need-put-row-requires Inv-loop μ-loop
+put-row-requires c κs = search needs
+
+add-i : tie.Need-add-i Inv-loop μ-loop
+add-i c = search needs
+
+loop-less : tie.Need-loop-less Inv-loop μ-loop
+loop-less c = search needs
+
+loop-again : tie.Need-loop-again Inv-loop μ-loop
+loop-again c = search needs
+
+same-length : tie.Need-same-length Inv-loop μ-loop
+same-length c = search needs
+
+returns : tie.Need-returns Inv-loop μ-loop
+returns c = search needs
+
+pub put-holidays-spec : {M : Type 1} → statement M
+put-holidays-spec =
+    tie.close
+    (tie.spec
+    Inv-loop
+    μ-loop
+    loop-holds
+    mul-holiday
+    shared-slice-read-holiday
+    holiday-requires
+    put-row-requires
+    add-i
+    loop-less
+    loop-again
+    same-length
+    returns)

@@ -15,7 +15,7 @@ use calendar::{Date, DateAnswer};
 use day_count_conv::YearFraction;
 use time_period::{TimePeriod, TimePeriodUnit};
 
-#[derive(Drop)]
+#[derive(Clone, Copy)]
 pub(crate) enum CouponPeriodAnswer {
     Period(CouponPeriod),
     Refused(u32),

@@ -11,7 +11,7 @@ use calendar::Date;
 use day_count_conv::YearFraction;
 
 // A coupon period, by its unadjusted dates.
-#[derive(Drop)]
+#[derive(Clone, Copy)]
 pub(crate) struct CouponPeriod {
     pub start: Date,
     pub end: Date,

@@ -1,11 +1,13 @@
 // Numbers in fields of bits, the most significant bit first: read from lent bytes, and put into
 // them one after the other.
+#![tactic(auto)]
+
 ghost use Rattle.std.specs.Prelude.{◌≡◌, ◌+◌, ◌-◌, ◌*◌, ◌≤◌, ◌<◌, ◌^◌, [], ◌∷◌, length};
 ghost use Rattle.bit_fields.specs.Bits.{in_bits, bytes_number, field};
 ghost use Rattle.bit_fields.specs.BitWriters.{HoldsPartOfAByte, FieldsPut};
 
 // Bytes that are written, and the bits of the next one that are at hand.
-#[derive(Drop)]
+#[derive(Clone, Copy)]
 pub struct BitWriter {
     pub place: usize,
     pub count: usize,

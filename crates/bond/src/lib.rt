@@ -1,5 +1,7 @@
 // The note: its limits, its checks in their order, its first coupon end, and what a fraction of a
 // year pays.
+#![tactic(auto)]
+
 pub mod coupons;
 pub mod limits;
 pub mod note;

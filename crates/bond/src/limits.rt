@@ -2,7 +2,7 @@
 ghost use Rattle.bond.specs.limits.Limits.{NoteNumberPromise, CouponRatePromise};
 
 // How many digits, and the digits as a number: 00417 and 417 are two numbers.
-#[derive(Drop)]
+#[derive(Clone, Copy)]
 pub struct NoteNumber {
     pub count: u32,
     pub digits: u64,

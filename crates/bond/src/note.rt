@@ -11,7 +11,7 @@ use day_adjust::DayAdjust;
 use day_count_conv::DayCountConv;
 use time_period::{TimePeriod, TimePeriodUnit};
 
-#[derive(Drop)]
+#[derive(Clone, Copy)]
 pub struct Note {
     pub number: NoteNumber,
     pub issue_date: Date,
@@ -25,7 +25,7 @@ pub struct Note {
     pub currency: Currency,
 }
 
-#[derive(Drop)]
+#[derive(Clone, Copy)]
 pub enum NoteAnswer {
     Note(Note),
     Refused(u32),

@@ -4,7 +4,7 @@ ghost use Rattle.business_days.specs.days.Answers.{BusinessPromise, NextPromise,
 
 use calendar::{Day, DayAnswer};
 
-#[derive(Drop)]
+#[derive(Clone, Copy)]
 pub enum BusinessAnswer {
     Business(bool),
     Refused(u32),

@@ -1,4 +1,6 @@
 // Business days over a lent holiday table: Saturdays, Sundays and the listed days are none.
+#![tactic(auto)]
+
 pub mod days;
 pub mod table;
 pub mod walk;

@@ -8,7 +8,7 @@ ghost use Rattle.business_days.specs.days.Answers.{TablePromise};
 use calendar::LAST_DAY;
 
 // A day's place in a table, that of the first holiday not before it; or the table is not taken.
-#[derive(Drop)]
+#[derive(Clone, Copy)]
 pub enum Place {
     At(usize),
     NoTable,

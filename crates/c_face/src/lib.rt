@@ -1,5 +1,7 @@
 // The C face: the entry points over numbers, bytes and lent slices. Each returns the refusal's
 // number, or 0 for an answer, and only then writes what is lent.
+#![tactic(auto)]
+
 ghost use Rattle.std.specs.Prelude.{◌≡◌, true, length};
 ghost use Rattle.outcome.specs.Outcome.{given, and_then, passed_as};
 ghost use Rattle.calendar.specs.serial.Answers.{day_of, date_of, weekday_of, days_between};

@@ -1,4 +1,6 @@
 // What C hands in and what is handed over to it, as numbers.
+#![tactic(auto)]
+
 pub mod answers;
 pub mod arguments;
 

@@ -7,7 +7,7 @@ ghost use Rattle.calendar.specs.dates.Dates.{is_date, day_number, the_date};
 use crate::dates::Date;
 
 // A day of a year that begins in March, from 0.
-#[derive(Drop)]
+#[derive(Clone, Copy)]
 struct MarchDay {
     year: u32,
     day: u32,

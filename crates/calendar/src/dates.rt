@@ -2,14 +2,14 @@
 ghost use Rattle.calendar.specs.dates.Dates.{IsDatePromise, IsDayPromise, BeforePromise, SamePromise};
 
 // A serial day: 1 is 0001-01-01, and 3652059 is 9999-12-31.
-#[derive(Drop)]
+#[derive(Clone, Copy)]
 pub struct Day(pub u32);
 
 // A day count: the length between two serial days.
-#[derive(Drop)]
+#[derive(Clone, Copy)]
 pub struct Days(pub u32);
 
-#[derive(Drop)]
+#[derive(Clone, Copy)]
 pub struct Date {
     pub year: u32,
     pub month: u32,

@@ -1,4 +1,6 @@
 // The calendar of document 01: dates, serial days and weekdays, each found from the other.
+#![tactic(auto)]
+
 pub mod convert;
 pub mod dates;
 pub mod gregorian;

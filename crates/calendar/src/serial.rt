@@ -3,26 +3,26 @@ ghost use Rattle.calendar.specs.serial.Answers.{DayOfPromise, DateOfPromise, Wee
 
 use crate::dates::{Date, Day, Days, LAST_DAY};
 
-#[derive(Drop)]
+#[derive(Clone, Copy)]
 pub enum DayAnswer {
     Day(Day),
     Refused(u32),
 }
 
-#[derive(Drop)]
+#[derive(Clone, Copy)]
 pub enum DaysAnswer {
     Days(Days),
     Refused(u32),
 }
 
-#[derive(Drop)]
+#[derive(Clone, Copy)]
 pub enum DateAnswer {
     Date(Date),
     Refused(u32),
 }
 
 // Monday is 1 and Sunday 7.
-#[derive(Drop)]
+#[derive(Clone, Copy)]
 pub enum WeekdayAnswer {
     Weekday(u32),
     Refused(u32),

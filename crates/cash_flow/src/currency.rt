@@ -4,14 +4,14 @@ ghost use Rattle.std.specs.Prelude.{◌≡◌};
 ghost use Rattle.cash_flow.specs.currency.Amounts.{is_capital, CurrencyPromise, SameCurrencyPromise, UpToBillionPromise};
 
 // finql keeps three `char`s in an array; fields may stand in an enum, an array may not.
-#[derive(Drop)]
+#[derive(Clone, Copy)]
 pub struct Currency {
     pub first: u8,
     pub second: u8,
     pub third: u8,
 }
 
-#[derive(Drop)]
+#[derive(Clone, Copy)]
 pub enum AmountAnswer {
     Amount(f64),
     Refused(u32),

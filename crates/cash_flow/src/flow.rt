@@ -6,7 +6,7 @@ ghost use Rattle.cash_flow.specs.flow.Flows.{date_on, is_within, AggregatablePro
 use crate::currency::Currency;
 use calendar::{Date, DateAnswer, Day};
 
-#[derive(Drop)]
+#[derive(Clone, Copy)]
 pub struct CashFlow {
     pub date: Date,
     pub currency: Currency,
@@ -14,7 +14,7 @@ pub struct CashFlow {
 }
 
 // How many flows were written into lent room.
-#[derive(Drop)]
+#[derive(Clone, Copy)]
 pub enum FlowsAnswer {
     Flows(usize),
     Refused(u32),

@@ -1,4 +1,6 @@
 // A cash flow: its date, its currency and its amount; `round2digits`; comparison of two flows.
+#![tactic(auto)]
+
 pub mod currency;
 pub mod flow;
 pub mod round;

@@ -1,13 +1,15 @@
 // Coupon dates: the day and the month at which a note's coupons end.
+#![tactic(auto)]
+
 ghost use Rattle.coupon_date.specs.Coupons.{NewPromise};
 
-#[derive(Drop)]
+#[derive(Clone, Copy)]
 pub struct CouponDate {
     pub day: u32,
     pub month: u32,
 }
 
-#[derive(Drop)]
+#[derive(Clone, Copy)]
 pub enum CouponAnswer {
     Coupon(CouponDate),
     Refused(u32),

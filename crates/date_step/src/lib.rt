@@ -1,4 +1,6 @@
 // Dates some months, years or days on: every signed number is answered.
+#![tactic(auto)]
+
 ghost use Rattle.std.specs.Prelude.{◌≡◌, true, ◌≤◌, ◌<◌, pos, ◌+ℤ◌};
 ghost use Rattle.std.specs.Int.Signed.{mag};
 ghost use Rattle.calendar.specs.dates.Dates.{is_date, month_date};
@@ -11,7 +13,7 @@ const LAST_DAY_INDEX: u32 = 3652058;
 
 const LAST_MONTH_INDEX: u32 = 119987;
 
-#[derive(Drop)]
+#[derive(Clone, Copy)]
 enum MovedAnswer {
     To(u32),
     Refused(u32),

@@ -1,4 +1,6 @@
 // Day adjustment: a date that is no business day moves by one of four rules.
+#![tactic(auto)]
+
 ghost use Rattle.std.specs.Prelude.{◌≡◌, true, ◌||◌, ◌≤◌, eqb, leb};
 ghost use Rattle.outcome.specs.Outcome.{given, and_then, pick};
 ghost use Rattle.calendar.specs.gregorian.Gregorian.{month_length};
@@ -11,7 +13,7 @@ ghost use Rattle.day_adjust.specs.Adjustment.{next_date, prev_date, moved_date, 
 use business_days::Place;
 use calendar::{Date, DateAnswer, DayAnswer};
 
-#[derive(Drop)]
+#[derive(Clone, Copy)]
 pub enum DayAdjust {
     None,
     Following,

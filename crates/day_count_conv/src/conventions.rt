@@ -13,7 +13,7 @@ use icma::{Broken, Parts, PartsAnswer};
 use time_period::{FrequencyAnswer, TimePeriod};
 
 // In the order of document 01's table.
-#[derive(Drop)]
+#[derive(Clone, Copy)]
 pub enum DayCountConv {
     Act365,
     Act360,
@@ -23,26 +23,26 @@ pub enum DayCountConv {
     ActActICMA,
 }
 
-#[derive(Drop)]
+#[derive(Clone, Copy)]
 pub enum YearFraction {
     Fraction(f64),
     Refused(u32),
 }
 
-#[derive(Drop)]
+#[derive(Clone, Copy)]
 pub enum RollDate {
     Date(Date),
     Absent,
 }
 
-#[derive(Drop)]
+#[derive(Clone, Copy)]
 pub enum RollPeriod {
     Period(TimePeriod),
     Absent,
 }
 
 // What only some conventions ask for beside two dates; the others ignore it.
-#[derive(Drop)]
+#[derive(Clone, Copy)]
 pub struct NoteTerms {
     pub roll: RollDate,
     pub period: RollPeriod,

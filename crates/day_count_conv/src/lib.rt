@@ -1,4 +1,6 @@
 // The year fraction by six conventions: its refusals, its f64, and how far off it may be.
+#![tactic(auto)]
+
 pub mod conventions;
 pub mod fractions;
 pub mod judged;

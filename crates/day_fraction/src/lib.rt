@@ -1,5 +1,7 @@
 // The five day-count rules of finql's day_count_conv.rs that need two dates alone, for dates that
 // are already judged.
+#![tactic(auto)]
+
 ghost use Rattle.std.specs.Prelude.{◌≡◌, true, ◌≤◌, pos};
 ghost use Rattle.calendar.specs.gregorian.Gregorian.{year_length};
 ghost use Rattle.calendar.specs.dates.Dates.{is_date};
@@ -9,7 +11,7 @@ ghost use Rattle.day_fraction.specs.Fractions.{Span, days, years, months, since_
 use calendar::Date;
 
 // In the order of document 01's table.
-#[derive(Drop)]
+#[derive(Clone, Copy)]
 pub enum SimpleRule {
     Act365,
     Act360,

@@ -11,7 +11,7 @@ ghost use Rattle.decimal.specs.float.Parts.{PartsOf};
 use number_text::LengthAnswer;
 
 // A number's sign and ten-thousandths.
-#[derive(Drop)]
+#[derive(Clone, Copy)]
 enum Parts {
     // Below 2^49 they fit.
     Small(bool, u64),

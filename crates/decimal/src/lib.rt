@@ -1,4 +1,6 @@
 // An f64 as text with four decimals, from its exact value.
+#![tactic(auto)]
+
 pub mod big_digits;
 pub mod float;
 pub mod four_decimals;

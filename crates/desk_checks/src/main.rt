@@ -1,5 +1,7 @@
 // The clerk's checks: the desk card, the limits and the slips, each asked of its entry point and
 // compared with what the paper says.
+#![tactic(auto)]
+
 ghost use Rattle.std.specs.Prelude.{◌≡◌, length};
 
 use bond::{Note, NoteNumber};
@@ -15,7 +17,7 @@ use time_period::{PeriodAnswer, TimePeriod, TimePeriodUnit};
 const FIRST_LISTED: u32 = 738003;
 
 // How many answers are as written, and how many are not.
-#[derive(Drop)]
+#[derive(Clone, Copy)]
 struct Tally {
     good: u32,
     wrong: u32,

@@ -1,10 +1,12 @@
 // Every day of the calendar, held to a count kept day by day: its date, that date's serial day, the
 // table's where a year begins, and its weekday.
+#![tactic(auto)]
+
 use calendar::{Date, DateAnswer, Day, DayAnswer, WeekdayAnswer};
 use libc::STDOUT_FILENO;
 
 // Where the count stands; counting on needs no rule but the months' lengths.
-#[derive(Drop)]
+#[derive(Clone, Copy)]
 struct Count {
     year: u32,
     month: u32,

@@ -1,4 +1,6 @@
 // The flows after a date, as records and in plain lists.
+#![tactic(auto)]
+
 pub mod plain;
 pub mod records;
 

@@ -1,4 +1,6 @@
 // Dates, amounts, flows and refusals as text.
+#![tactic(auto)]
+
 pub mod amount;
 pub mod date;
 pub mod flow;

@@ -1,4 +1,6 @@
 // Act/Act ICMA between two dates: whole periods and broken parts, by walks from the roll date.
+#![tactic(auto)]
+
 pub mod parts;
 pub mod walks;
 

@@ -12,13 +12,13 @@ use time_period::TimePeriod;
 
 // A period that the start or the end cuts: some days over the period's length. The days may be
 // negative.
-#[derive(Drop)]
+#[derive(Clone, Copy)]
 pub enum Broken {
     Nothing,
     Part(i32, u32),
 }
 
-#[derive(Drop)]
+#[derive(Clone, Copy)]
 pub(crate) enum BrokenAnswer {
     Broken(Broken),
     Refused(u32),
@@ -26,13 +26,13 @@ pub(crate) enum BrokenAnswer {
 
 // Shorter than a period: the days, and the period's length. Or the broken parts at both ends, and
 // the whole periods.
-#[derive(Drop)]
+#[derive(Clone, Copy)]
 pub enum Parts {
     Short(u32, u32),
     Long(Broken, Broken, u32),
 }
 
-#[derive(Drop)]
+#[derive(Clone, Copy)]
 pub enum PartsAnswer {
     Parts(Parts),
     Refused(u32),

@@ -10,13 +10,13 @@ use calendar::{Date, DateAnswer};
 use time_period::{TimePeriod, TimePeriodUnit};
 
 // Where a walk stands, and how many of the dates it reached count.
-#[derive(Drop)]
+#[derive(Clone, Copy)]
 pub(crate) struct Walked {
     pub at: Date,
     pub count: u32,
 }
 
-#[derive(Drop)]
+#[derive(Clone, Copy)]
 pub(crate) enum WalkAnswer {
     Walked(Walked),
     Refused(u32),

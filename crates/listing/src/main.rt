@@ -1,13 +1,15 @@
 // The program: reads a packed note and its table from standard input, and writes its flows or
 // `refused N`. It has no exit status, so it says on standard error how that went, in one line: only
 // `whole: ..` says that all of it is read and written, and no word at all is trouble too.
+#![tactic(auto)]
+
 ghost use Rattle.io.specs.Counts.{IsPrefixLen};
 
 use libc::{STDERR_FILENO, STDIN_FILENO, STDOUT_FILENO};
 use number_text::LengthAnswer;
 
 // How many bytes were read, and whether no read failed.
-#[derive(Drop)]
+#[derive(Clone, Copy)]
 struct Input {
     length: usize,
     is_read: bool,

@@ -22,7 +22,7 @@ pub const KEPT: usize = 256;
 const NO_HINT: usize = 4097;
 
 // One step: a flow's serial day and the flow with what is due after it, a refusal, or the end.
-#[derive(Drop)]
+#[derive(Clone, Copy)]
 pub enum Step {
     Pay(u32, CashFlow, Due),
     Stop(u32),
@@ -30,7 +30,7 @@ pub enum Step {
 }
 
 // A step, and the place of its date among the holidays.
-#[derive(Drop)]
+#[derive(Clone, Copy)]
 pub(crate) struct HintedStep {
     pub step: Step,
     pub hint: usize,

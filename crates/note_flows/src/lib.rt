@@ -1,4 +1,6 @@
 // What a note pays next, and its flows one at a time.
+#![tactic(auto)]
+
 pub mod flows;
 pub mod schedule;
 

@@ -13,7 +13,7 @@ use calendar::{Date, DateAnswer};
 use day_count_conv::YearFraction;
 
 // What is due: the first coupon, what follows a coupon that ended on a date, or nothing more.
-#[derive(Drop)]
+#[derive(Clone, Copy)]
 pub enum Due {
     First,
     After(Date),
@@ -22,7 +22,7 @@ pub enum Due {
 
 // What comes next: the first coupon from its start to its end, a later one, the nominal, a refusal,
 // or nothing more.
-#[derive(Drop)]
+#[derive(Clone, Copy)]
 pub(crate) enum Event {
     First(Date, Date),
     Later(Date, Date),
@@ -33,7 +33,7 @@ pub(crate) enum Event {
 
 // What is owed: an amount on a date that is not adjusted yet, and what is due after it; a refusal,
 // or nothing more.
-#[derive(Drop)]
+#[derive(Clone, Copy)]
 pub(crate) enum Payment {
     Pay(Date, f64, Due),
     Stop(u32),

@@ -1,4 +1,6 @@
 // Decimals: read from bytes, how long their text is, and written to bytes.
+#![tactic(auto)]
+
 pub mod length;
 pub mod read;
 pub mod write;

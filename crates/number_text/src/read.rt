@@ -2,13 +2,13 @@
 ghost use Rattle.std.specs.Prelude.{◌≡◌, ◌≤◌, pos, neg_ℤ};
 ghost use Rattle.number_text.specs.read.Reading.{below_zero, from_zero, signed_outcome, ReadsDecimal, ReadsUnsigned, ReadsSigned};
 
-#[derive(Drop)]
+#[derive(Clone, Copy)]
 pub enum NumberAnswer {
     Number(u32),
     Refused(u32),
 }
 
-#[derive(Drop)]
+#[derive(Clone, Copy)]
 pub enum SignedAnswer {
     Number(i32),
     Refused(u32),

@@ -4,7 +4,7 @@ ghost use Rattle.number_text.specs.write.Writing.{digits, decimal_text, padded_t
 
 use crate::length::{decimal_length, padded_length, signed_length};
 
-#[derive(Drop)]
+#[derive(Clone, Copy)]
 pub enum LengthAnswer {
     Length(usize),
     Refused(u32),

@@ -72,10 +72,10 @@ mag_minus (suc v) c p h = h
 
 -- a number of 32 bits, widened to 64
 pub widened : (z : ℤ) → SFits w32 z → to_z w64 (of_z w64 (to_z w32 (of_z w32 z))) ≡ z
-widened z f = ap (λ (n : ℤ). to_z w64 (of_z w64 n)) (to_z-of_z f) ∙ to_z-of_z (sfits_widen tt f)
+widened z f = ap (λ (n : ℤ). to_z w64 (of_z w64 n)) (to_z-of_z f) ∙ to_z-of_z (sfits_widen {w = w32} {w' = w64} (tt {0}) f)
 
 pub wide_fits : (z : ℤ) → SFits w32 z → SFits w64 (to_z w32 (of_z w32 z))
-wide_fits z f = subst (SFits w64) (sym (to_z-of_z f)) (sfits_widen tt f)
+wide_fits z f = subst (SFits w64) (sym (to_z-of_z f)) (sfits_widen {w = w32} {w' = w64} (tt {0}) f)
 
 -- a binary number equal to itself is no NaN
 pub not-nan : (x : Float) → ne x x ≡ false → T (not (is_nan x))

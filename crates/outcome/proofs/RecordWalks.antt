@@ -6,7 +6,7 @@ use denote.Laws.{Is}
 use denote.Steps.{only}
 use denote.Enum.Declared.{Declared, row}
 use denote.Enum.Laws.{Laws, val, tells}
-use mir.Syntax.{Body, skip, seq, assign, block, loop, cond, switch, exit, return, call}
+use mir.Syntax.{Body, skip, seq, assign, block, loop, cond, switch, exit, return, call, unreachable, call_v, lend_static}
 
 -- what follows the first part of a sequence: by it a walk names a piece of the code
 abbrev pub rest_of : Body → Body
@@ -20,6 +20,9 @@ rest_of (switch c as') = skip
 rest_of (exit n) = skip
 rest_of return = skip
 rest_of (call f xs p) = skip
+rest_of unreachable = skip
+rest_of (call_v a b c d) = skip
+rest_of (lend_static a b c) = skip
 
 -- a result of a declared type: its machine value is the type's, and that value holds what the type
 -- says

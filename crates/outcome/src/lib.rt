@@ -1,5 +1,7 @@
 // The numbers a clerk may see, one for each refusal, with finql's name where it has one; and a
 // number's magnitude. The laws of outcomes and of lent room have no code.
+#![tactic(auto)]
+
 ghost use Rattle.outcome.specs.Signs.{MagnitudePromise};
 
 pub const INVALID_DATE: u32 = 1;

@@ -1,5 +1,7 @@
 // The packed codes of units, day counts and adjustments, both ways; `c_face` reads C's codes by
 // them.
+#![tactic(auto)]
+
 ghost use Rattle.std.specs.Prelude.{◌≡◌};
 ghost use Rattle.packed_codes.specs.Codes.{unit_of_code, code_of_unit, convention_of_code, code_of_convention, convention_outcome, adjustment_of_code, code_of_adjustment, adjustment_outcome};
 ghost use Rattle.time_period.specs.steps.Periods.{unit_outcome};
@@ -8,13 +10,13 @@ use day_adjust::DayAdjust;
 use day_count_conv::DayCountConv;
 use time_period::{TimePeriodUnit, UnitAnswer};
 
-#[derive(Drop)]
+#[derive(Clone, Copy)]
 pub enum ConventionAnswer {
     Convention(DayCountConv),
     Refused(u32),
 }
 
-#[derive(Drop)]
+#[derive(Clone, Copy)]
 pub enum AdjustmentAnswer {
     Adjustment(DayAdjust),
     Refused(u32),

@@ -1,4 +1,6 @@
 // The bits of a packed note: one table of widths, by which its numbers are read and put.
+#![tactic(auto)]
+
 ghost use Rattle.std.specs.Prelude.{◌≡◌, ◌*◌, ◌≤◌, length};
 ghost use Rattle.bit_fields.specs.BitWriters.{Ready, FieldsPut};
 ghost use Rattle.packed_layout.specs.Layouts.{total};

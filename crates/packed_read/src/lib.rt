@@ -1,4 +1,6 @@
 // A packed note with its holiday table, read.
+#![tactic(auto)]
+
 pub mod note;
 pub mod packed;
 pub mod table;

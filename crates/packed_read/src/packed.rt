@@ -6,13 +6,13 @@ ghost use Rattle.bond.specs.note.Notes.{note_outcome};
 
 use bond::{Note, NoteAnswer};
 
-#[derive(Drop)]
+#[derive(Clone, Copy)]
 pub struct PackedNote {
     pub note: Note,
     pub holidays: usize,
 }
 
-#[derive(Drop)]
+#[derive(Clone, Copy)]
 pub enum PackedAnswer {
     Packed(PackedNote),
     Refused(u32),

@@ -1,4 +1,6 @@
 // A note with its holiday table, packed.
+#![tactic(auto)]
+
 pub mod numbers;
 pub mod packed;
 

@@ -1,4 +1,6 @@
 // `Simple` discounting: the factor, one flow, and a stream as records or in plain lists.
+#![tactic(auto)]
+
 pub mod factors;
 pub mod plain;
 pub mod records;

@@ -10,14 +10,14 @@ use cash_flow::{AmountAnswer, CashFlow, Currency};
 use day_count_conv::{DayCountConv, YearFraction};
 
 // finql's `FlatRate` with `Compounding::Simple`, the one compounding that is carried over.
-#[derive(Drop)]
+#[derive(Clone, Copy)]
 pub struct FlatRate {
     pub rate: f64,
     pub day_count_conv: DayCountConv,
     pub currency: Currency,
 }
 
-#[derive(Drop)]
+#[derive(Clone, Copy)]
 pub enum FactorAnswer {
     Factor(f64),
     Refused(u32),

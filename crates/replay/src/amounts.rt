@@ -75,7 +75,7 @@ pub(crate) fn flow_in(f: &[u8], i: usize) -> CashFlow
 }
 
 // Flows as lists: a flow is what stands at one place of each of the three.
-#[derive(Drop)]
+#[derive(Clone, Copy)]
 pub(crate) struct Lists {
     n: usize,
     days: [u32; PLACES],
@@ -121,7 +121,7 @@ fn discount_listed_flows(f: &[u8]) -> Row {
 }
 
 // What a call answers and leaves in its three lists.
-#[derive(Drop)]
+#[derive(Clone, Copy)]
 pub(crate) struct Listed {
     answer: FlowsAnswer,
     days: [u32; PLACES],

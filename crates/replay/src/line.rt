@@ -23,7 +23,7 @@ const THREE_LETTERS: u8 = 6;
 
 const BITS: u8 = 16;
 
-#[derive(Drop)]
+#[derive(Clone, Copy)]
 pub(crate) struct Row {
     n: usize,
     fronts: [u8; WORDS],

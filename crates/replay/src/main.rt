@@ -1,4 +1,6 @@
 // The program: answers questions about the entry points, a line for each record of standard input.
+#![tactic(auto)]
+
 mod amounts;
 mod business;
 mod days;

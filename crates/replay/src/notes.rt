@@ -28,7 +28,7 @@ pub(crate) fn told(verb: u8, f: &[u8]) -> Row {
 }
 
 // What a rollout answers and leaves in its two lists.
-#[derive(Drop)]
+#[derive(Clone, Copy)]
 pub(crate) struct RolledOut {
     answer: FlowsAnswer,
     days: [u32; PLACES],

@@ -16,7 +16,7 @@ const PLACES: usize = 300;
 const PATTERN_CURRENCY: u32 = 10855845;
 
 // What a call answers and leaves in its room.
-#[derive(Drop)]
+#[derive(Clone, Copy)]
 pub(crate) struct Records {
     answer: FlowsAnswer,
     room: [CashFlow; PLACES],

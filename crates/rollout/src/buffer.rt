@@ -13,7 +13,7 @@ use cash_flow::{CashFlow, FlowsAnswer};
 use note_flows::{Due, Step};
 
 // A flow, and what is due after it.
-#[derive(Drop)]
+#[derive(Clone, Copy)]
 pub(crate) struct Paid {
     pub flow: CashFlow,
     pub next: Due,

@@ -1,4 +1,6 @@
 // The text of a period and of a coupon date, read and written.
+#![tactic(auto)]
+
 pub mod coupon;
 pub mod period;
 

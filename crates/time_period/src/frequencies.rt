@@ -5,7 +5,7 @@ ghost use Rattle.time_period.specs.steps.Periods.{frequency_outcome, months_freq
 use crate::steps::{TimePeriod, TimePeriodUnit};
 
 // How many of a period make a year.
-#[derive(Drop)]
+#[derive(Clone, Copy)]
 pub enum FrequencyAnswer {
     Frequency(u32),
     Refused(u32),

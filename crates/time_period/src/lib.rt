@@ -1,4 +1,6 @@
 // Periods: a step from a date, how often one comes in a year, and a period added or subtracted.
+#![tactic(auto)]
+
 pub mod added;
 pub mod frequencies;
 pub mod steps;

@@ -8,7 +8,7 @@ ghost use Rattle.time_period.specs.steps.Steps.{absent, table, business_step, st
 
 use calendar::{Date, DateAnswer, DayAnswer};
 
-#[derive(Drop)]
+#[derive(Clone, Copy)]
 pub enum TimePeriodUnit {
     Daily,
     BusinessDaily,
@@ -17,19 +17,19 @@ pub enum TimePeriodUnit {
     Annual,
 }
 
-#[derive(Drop)]
+#[derive(Clone, Copy)]
 pub struct TimePeriod {
     pub num: i32,
     pub unit: TimePeriodUnit,
 }
 
-#[derive(Drop)]
+#[derive(Clone, Copy)]
 pub enum PeriodAnswer {
     Period(TimePeriod),
     Refused(u32),
 }
 
-#[derive(Drop)]
+#[derive(Clone, Copy)]
 pub enum UnitAnswer {
     Unit(TimePeriodUnit),
     Refused(u32),

@@ -1,0 +1,18 @@
+-- `day_count_conv::part_added` meets its contract: nothing is added, or one quotient.
+use mathlib.Core.Path.{sym, ◌∙◌, ap}
+use lib.IntN.{ℤ, pos}
+use lib.Ieee.{binary64, add, div, of_int}
+use mir.Syntax.{w32}
+use mir.Val.{SFits}
+use mir.Facts.{to_z-of_z}
+use Rattle.day_count_conv.specs.conventions.Conventions.{part_added}
+use Rattle.day_count_conv.proofs.conventions.part_added.Goals as goal
+
+-- the days fit 32 bits
+days_fit : (c : goal.In-Part) → SFits w32 c.in-Part.days
+days_fit c = record { sfits = c.known_told-1.given.0.1 }
+
+pub returns-in-Part : goal.returns-in-Part
+returns-in-Part c =
+    let s : tie.Start = c.before.before.before.before.before in
+    ap (λ (z : ℤ). add binary64 s.args.yf (div binary64 (of_int binary64 z) (of_int binary64 (pos c.in-Part.length)))) (to_z-of_z (days_fit c.before.before)) ∙ ap (part_added s.args.yf) (sym c.in-Part.is)

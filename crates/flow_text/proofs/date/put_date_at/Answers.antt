@@ -1,0 +1,28 @@
+-- `flow_text::put_date_at` meets its contract: the year, and month and day behind it.
+use mathlib.Core.Path.{sym}
+use native.Mathlib.Omega.{arith}
+use Rattle.number_text.proofs.length.Digits.{length_digits}
+use Rattle.number_text.proofs.write.Putting.{wrote_then}
+use Rattle.number_text.proofs.write.Writers.{wrote_is}
+use Rattle.flow_text.proofs.date.Dates.{date-digits, date_long, month_day_long}
+use Rattle.flow_text.proofs.date.put_date_at.Goals as goal
+
+pub put_digits-next-requires : goal.put_digits-next-requires
+put_digits-next-requires c =
+    let start : tie.Start = c.before.before.before in
+    omega (arith, start.requires.1, date_long start.args.t start.requires.0)
+
+pub put_month_and_day-requires : goal.put_month_and_day-requires
+put_month_and_day-requires c =
+    let start : tie.Start = c.before.before.before.before.before.before.before in
+    let year : tie.After-put-digits = c.before.before.before in
+    omega (arith, start.requires.1, date_long start.args.t start.requires.0, year.put-digits.ensures.1, year.put-digits.auto.1.1.0, length_digits 4 start.args.t.year)
+
+pub returns : goal.returns
+returns c =
+    let start : tie.Start = c.before.before.before.before.before.before.before.before.before.before in
+    let year : tie.After-put-digits = c.before.before.before.before.before.before in
+    let long = date_long start.args.t start.requires.0 in
+    wrote_is _ _ _ _ _ _
+    (wrote_then _ _ _ _ _ _ _ _ year.put-digits.ensures c.put_month_and_day.ensures (omega (arith, start.requires.1, long, length_digits 4 start.args.t.year, month_day_long start.args.t.month start.args.t.day)))
+    (sym (date-digits start.args.t start.requires.0))

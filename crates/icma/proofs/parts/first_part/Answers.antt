@@ -1,0 +1,57 @@
+-- `icma::first_part` meets its contract: nothing where the walk ends at the date itself, else the
+-- cut days over the period's length.
+use Prim.Native.Nat.{ℕ, ◌-◌}
+use mathlib.Core.Path.{◌≡◌, sym, ◌∙◌, ap, ap₂}
+use mathlib.Core.Bool.{true}
+use native.Mathlib.Omega.{arith}
+use lib.IntN.{ℤ, pos, ◌-ℤ◌}
+use Rattle.outcome.specs.Outcome.{Outcome, given, and_then}
+use Rattle.calendar.specs.dates.Dates.{is_before, day_number}
+use Rattle.calendar.specs.serial.Answers.{date_outcome}
+use Rattle.calendar.specs.declared.dates.Date.{Date}
+use Rattle.icma.specs.parts.Walk.{step, first_part}
+use Rattle.icma.specs.declared.parts.Broken.TheVariants.{Part}
+use Rattle.icma.specs.declared.parts.Broken.{Broken}
+use Rattle.time_period.proofs.steps.Steps.{step-later}
+use Rattle.icma.proofs.parts.Steps.{gap_kept}
+use Rattle.icma.proofs.parts.first_part.Goals as goal
+
+abbrev shown : Date → Date → Date → Outcome Broken
+shown start b u = given (Part (pos (day_number u) -ℤ pos (day_number start)) (day_number u - day_number b))
+
+-- where the step led, and that the walk went past
+led : (c : goal.In-Date-2) → step c.args.p c.args.b ≡ given c.in-Date.u
+led c = sym c.step.ensures ∙ ap date_outcome c.in-Date.is
+
+cut : (c : goal.Else-not-is_before) → is_before c.args.b c.args.start ≡ true
+cut c = sym c.is_before.ensures ∙ c.if-not-is_before.false
+
+pub returns-then-not-is_before : goal.returns-then-not-is_before
+unfolding first_part
+returns-then-not-is_before c = rw (sym c.is_before.ensures ∙ c.if-not-is_before.true)
+
+pub gap-days-requires : goal.gap-days-requires
+gap-days-requires c =
+    let s : tie.Start = c.before.before.before.before.before.before in
+    let k = step-later s.args.p s.args.b c.in-Date.u s.requires.1 s.requires.2 (led c.before) in
+    (k.0, s.requires.0)
+
+pub length-requires : goal.length-requires
+length-requires c =
+    let s : tie.Start = c.before.before.before.before.before.before.before in
+    let k = step-later s.args.p s.args.b c.in-Date.u s.requires.1 s.requires.2 (led c.before.before) in
+    (s.requires.1, k.0, omega (arith, k.1))
+
+pub returns-in-Date : goal.returns-in-Date
+unfolding first_part
+returns-in-Date c =
+    let s : tie.Start = c.before.before.before.before.before.before.before.before in
+    let v = c.in-Date.u in
+    let k = step-later s.args.p s.args.b v s.requires.1 s.requires.2 (led c.before.before.before) in
+    rw (cut c.before.before.before.before.before.before) (ap₂ {C = Outcome Broken} (λ (x : ℤ) (y : ℕ). given (Part x y)) (gap_kept v s.args.start c.gap-days.result k.0 s.requires.0 c.gap-days.ensures) c.length.ensures ∙ sym (ap (λ (o : Outcome Date). and_then o (shown s.args.start s.args.b)) (led c.before.before.before)))
+
+pub returns-in-Refused : goal.returns-in-Refused
+unfolding first_part
+returns-in-Refused c =
+    let s : tie.Start = c.before.before.before.before.before.before in
+    rw (cut c.before.before.before.before) (sym (ap (λ (o : Outcome Date). and_then o (shown s.args.start s.args.b)) (sym c.step.ensures ∙ ap date_outcome c.in-Refused.is)))

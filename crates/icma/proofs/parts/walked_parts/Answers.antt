@@ -1,0 +1,56 @@
+-- `icma::walked_parts` meets its contract: the base from the roll date, and the parts from there.
+use mathlib.Core.Path.{◌≡◌, sym, ◌∙◌, ap, subst}
+use mathlib.Core.Bool.{true}
+use lib.Signed.{lt_z}
+use lib.IntN.{ℤ, pos, ◌-ℤ◌}
+use mir.Val.{SFits, to_z, of_z}
+use mir.Syntax.{w32}
+use Rattle.outcome.specs.Outcome.{Outcome, given, and_then}
+use Rattle.icma.specs.walks.Walks.{walk_outcome}
+use Rattle.icma.specs.parts.Walk.{negated, base_from, parts_from, icma_parts}
+use Rattle.icma.specs.declared.walks.Walked.{Walked}
+use Rattle.time_period.specs.declared.steps.TimePeriod.{TimePeriod}
+use Rattle.time_period.proofs.steps.Signs.{positive_not_least, minus_fits, minus_read, negative_back}
+use Rattle.icma.proofs.parts.Steps.{base_ends}
+use Rattle.icma.proofs.parts.walked_parts.Goals as goal
+
+-- the number fits, and the period made of its negative is the negated one
+num-fits : (c : goal.After-struct_told-1) → SFits w32 c.args.p.num
+num-fits c = record { sfits = c.struct_told-1.given.0.1 }
+
+turned : (c : goal.After-struct_told-1) → ◌≡◌ {A = TimePeriod} (record { num = to_z w32 (of_z w32 (pos 0 -ℤ to_z w32 (of_z w32 c.args.p.num))); unit = c.args.p.unit }) (negated c.args.p)
+turned c =
+    let p = c.args.p in
+    ap {B = TimePeriod} (λ (z : ℤ). record { num = z; unit = p.unit }) (minus_read p.num (num-fits c) (positive_not_least p.num c.requires.4))
+
+-- the base, as it was found
+found : (c : goal.After-base_from) → base_from c.args.p (negated c.args.p) c.args.start c.args.end c.args.roll ≡ walk_outcome c.base_from.result
+found c =
+    let s = c.args in
+    ap (λ (q : TimePeriod). base_from s.p q s.start s.end s.roll) (sym (turned c.before)) ∙ sym c.base_from.ensures
+
+based : (c : goal.In-Walked-2) → base_from c.args.p (negated c.args.p) c.args.start c.args.end c.args.roll ≡ given c.in-Walked.b
+based c = found c.before.before ∙ ap walk_outcome c.in-Walked.is
+
+pub overflow_sub-q : goal.overflow_sub-q
+overflow_sub-q c = minus_fits c.args.p.num (num-fits c) (positive_not_least c.args.p.num c.requires.4)
+
+pub base_from-requires : goal.base_from-requires
+base_from-requires c = (c.requires.0, c.requires.1, c.requires.3, c.requires.4, subst (λ (q : TimePeriod). lt_z q.num (pos 0) ≡ true) (sym (turned c)) (negative_back c.args.p.num c.requires.4))
+
+pub parts_from-requires : goal.parts_from-requires
+parts_from-requires c =
+    let s : tie.Start = c.before.before.before.before.before in
+    (s.requires.0, s.requires.1, s.requires.2, base_ends s.args.p s.args.start s.args.end s.args.roll c.in-Walked.b s.requires.3 s.requires.4 (based c.before), s.requires.4, subst (λ (q : TimePeriod). lt_z q.num (pos 0) ≡ true) (sym (turned c.before.before.before.before)) (negative_back s.args.p.num s.requires.4))
+
+pub returns-in-Walked : goal.returns-in-Walked
+unfolding icma_parts
+returns-in-Walked c =
+    let s : tie.Start = c.before.before.before.before.before.before in
+    c.parts_from.ensures ∙ ap (λ (q : TimePeriod). parts_from s.args.p q s.args.start s.args.end c.in-Walked.b) (turned c.before.before.before.before.before) ∙ sym (ap (λ (o : Outcome Walked). and_then o (parts_from s.args.p (negated s.args.p) s.args.start s.args.end)) (based c.before.before))
+
+pub returns-in-Refused : goal.returns-in-Refused
+unfolding icma_parts
+returns-in-Refused c =
+    let s : tie.Start = c.before.before.before.before.before in
+    sym (ap (λ (o : Outcome Walked). and_then o (parts_from s.args.p (negated s.args.p) s.args.start s.args.end)) (found c.before.before.before ∙ ap walk_outcome c.in-Refused.is))

@@ -1,0 +1,21 @@
+-- `icma::month_index` meets its contract: nothing goes below 0, and the number fits.
+use native.Mathlib.Omega.{arith}
+use Rattle.calendar.proofs.dates.Dates.{IsDate, date-yes}
+use Rattle.icma.proofs.walks.month_index.Goals as goal
+use Rattle.icma.proofs.walks.month_index.Goals.{Start}
+
+-- the bounds of the date
+dated : (c : Start) → IsDate c.args.t
+dated c = date-yes c.args.t c.requires
+
+pub overflow_sub-result : goal.overflow_sub-result
+overflow_sub-result c = (dated c.before).year_from
+
+pub overflow_mul-result : goal.overflow_mul-result
+overflow_mul-result c = let h = dated c.before in omega (arith, h.year_to)
+
+pub overflow_sub-result-2 : goal.overflow_sub-result-2
+overflow_sub-result-2 c = (dated c.before.before).month_from
+
+pub overflow_add-result : goal.overflow_add-result
+overflow_add-result c = let h = dated c.before.before in omega (arith, h.year_to, h.month_to)

@@ -1,0 +1,51 @@
+-- `note_flows::collect` meets its contract. The loop's invariant: what is counted and what is left
+-- are the whole, and what is counted is kept. The measure: how many flows there can be.
+use mathlib.Core.Path.{subst}
+use native.Mathlib.Omega.{arith}
+use Rattle.note_flows.specs.flows.Turns.{Turned}
+use Rattle.note_flows.proofs.flows.Dues.{step_turns}
+use Rattle.note_flows.proofs.flows.Collecting.{counting_stop, counting_end, collecting_none, collecting_more, collecting_stop, collecting_end}
+use Rattle.note_flows.proofs.flows.collect.Goals as goal
+
+-- the step turns, and where it pays
+turned-at : (c : goal.After-next_flow_near-taken) → Turned c.args.note c.args.position c.args.table.now c.loop-day.due c.next_flow_near-taken.result.step
+turned-at c =
+    let s : tie.Start invariant-loop decreases-loop = c.before.before.before.before.before in
+    step_turns s.args.note s.args.position s.args.table.now s.requires c.loop-day.due c.loop-day.invariant.counting.dated _ c.next_flow_near-taken.ensures
+
+pub loop-day-init : goal.loop-day-init
+loop-day-init _ = collecting_none _ _ _ _ _
+
+pub next_flow_near-taken-requires : goal.next_flow_near-taken-requires
+next_flow_near-taken-requires c = (c.requires, c.loop-day.invariant.counting.dated)
+
+pub overflow_add-k : goal.overflow_add-k
+overflow_add-k c = let i = c.loop-day.invariant in omega (arith, i.counting.few)
+
+pub loop-day-smaller : goal.loop-day-smaller
+loop-day-smaller c = (pays c.before.before.before.before.before.before.before.before.before).0.fewer
+
+pub loop-day-preserved : goal.loop-day-preserved
+loop-day-preserved c = collecting_more _ _ _ _ _ c.loop-day.invariant (pays c.before.before.before.before.before.before.before.before.before) c.keep_day.ensures c.keep_amount.ensures
+
+pub shape_of-days-in-Stop : goal.shape_of-days-in-Stop
+shape_of-days-in-Stop c = c.loop-day.invariant.as_many_days
+
+pub shape_of-amounts-in-Stop : goal.shape_of-amounts-in-Stop
+shape_of-amounts-in-Stop c = c.loop-day.invariant.as_many_amounts
+
+pub returns-in-Stop : goal.returns-in-Stop
+returns-in-Stop c =
+    let e = subst (Turned _ _ _ c.loop-day.due) c.in-Stop.is (turned-at c.before.before.before) in
+    (counting_stop _ _ _ c.loop-day.invariant.counting e, collecting_stop _ _ _ _ _ c.loop-day.invariant e)
+
+pub shape_of-days-in-End : goal.shape_of-days-in-End
+shape_of-days-in-End c = c.loop-day.invariant.as_many_days
+
+pub shape_of-amounts-in-End : goal.shape_of-amounts-in-End
+shape_of-amounts-in-End c = c.loop-day.invariant.as_many_amounts
+
+pub returns-in-End : goal.returns-in-End
+returns-in-End c =
+    let e = subst (Turned _ _ _ c.loop-day.due) c.in-End.is (turned-at c.before.before) in
+    (counting_end _ _ _ c.loop-day.invariant.counting e, collecting_end _ _ _ _ _ c.loop-day.invariant e)

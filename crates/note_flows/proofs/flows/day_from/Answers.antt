@@ -1,0 +1,10 @@
+-- `note_flows::day_from` meets its contract: the same date has the same day.
+use mathlib.Core.Path.{sym, ◌∙◌, ap}
+use Rattle.calendar.specs.dates.Dates.{day_number}
+use Rattle.calendar.proofs.dates.Order.{same-yes}
+use Rattle.note_flows.proofs.flows.day_from.Goals as goal
+
+pub returns-then-is_same : goal.returns-then-is_same
+returns-then-is_same c =
+    let s : tie.Start = c.before.before in
+    s.requires.1 ∙ ap day_number (sym (same-yes s.args.u s.args.t (sym c.is_same.ensures ∙ c.if-is_same.true)))

@@ -1,0 +1,39 @@
+-- `note_listing::line_length` meets its contract: one byte more than the flow.
+use native.Mathlib.Omega.{arith}
+use lib.ListN.{length}
+use Rattle.outcome.specs.Outcome.{passed_as}
+use Rattle.number_text.specs.declared.write.LengthAnswer.TheVariants.{Length}
+use Rattle.cash_flow.specs.declared.flow.CashFlow.{CashFlow}
+use Rattle.flow_text.specs.flow.Texts.{flow_shown}
+use Rattle.note_listing.specs.lines.Lines.{line_shown}
+use Rattle.note_listing.specs.lines.Inner.{flow_on}
+use Prim.Native.Nat.{◌+◌, ◌≤◌}
+use mathlib.Core.Path.{sym, ap, subst, ◌∙◌}
+use lib.Dec.{T}
+use Rattle.number_text.specs.write.Writing.{length_outcome, Takes}
+use Rattle.note_listing.proofs.lines.Lines.{line_takes, line_takes_none}
+use Rattle.note_listing.proofs.lines.line_length.Goals as goal
+use Rattle.note_listing.proofs.lines.line_length.Goals.{Start}
+
+start : goal.In-Length → Start
+start c = c.before.before.before.before.before
+
+-- what the flow takes
+takes : (c : goal.In-Length) → (Takes (line_shown (flow_on (start c).args.currency (start c).args.day (start c).args.amount)) (Length (c.in-Length.k + 1))) × (c.in-Length.k + 1 ≤ 331)
+takes c =
+    let s = start c in
+    let f : CashFlow = flow_on s.args.currency s.args.day s.args.amount in
+    line_takes f c.in-Length.k (subst T (sym s.good.1.1.0.1) tt)
+    (ap length_outcome (sym c.in-Length.is) ∙ c.cash_flow_length.ensures ∙ ap (λ (g : CashFlow). passed_as length (flow_shown g)) c.flow_on.ensures)
+
+pub overflow_add-result : goal.overflow_add-result
+overflow_add-result c = omega (arith, (takes c).1)
+
+pub returns-in-Length : goal.returns-in-Length
+returns-in-Length c = takes c
+
+pub returns-in-Refused : goal.returns-in-Refused
+returns-in-Refused c =
+    let s : tie.Start = c.before.before.before.before.before in
+    let f : CashFlow = flow_on s.args.currency s.args.day s.args.amount in
+    (line_takes_none f _ (ap length_outcome (sym c.in-Refused.is) ∙ c.cash_flow_length.ensures ∙ ap (λ (g : CashFlow). passed_as length (flow_shown g)) c.flow_on.ensures), omega arith)

@@ -1,0 +1,58 @@
+-- `rollout::copy` meets its contract. The loop's invariant: i places are copied and the others are
+-- as they were. The measure: how many are left.
+use Prim.Native.Nat.{◌-◌}
+use mathlib.Core.Path.{◌≡◌}
+use native.Mathlib.Omega.{arith}
+use lib.Ieee.{nan}
+use Rattle.outcome.proofs.Filling.{filled_none, filled_next, filled_part}
+use Rattle.rollout.proofs.plain.copy.Goals as goal
+
+pub loop-i-init : goal.loop-i-init
+loop-i-init _ = (omega arith, filled_none _ _, filled_none _ _)
+
+pub offset_bounds-kept_days-i : goal.offset_bounds-kept_days-i
+offset_bounds-kept_days-i c = let h = in-days c in omega arith
+
+pub bounds-kept_days-i : goal.bounds-kept_days-i
+bounds-kept_days-i c = in-kept-days c.before
+
+pub offset_bounds-days-i : goal.offset_bounds-days-i
+offset_bounds-days-i c = let h = in-days c.before in omega arith
+
+pub bounds-days-i : goal.bounds-days-i
+bounds-days-i c = in-days c.before
+
+pub offset_bounds-kept_amounts-i : goal.offset_bounds-kept_amounts-i
+offset_bounds-kept_amounts-i c = let h = in-amounts c.before in omega arith
+
+pub bounds-kept_amounts-i : goal.bounds-kept_amounts-i
+bounds-kept_amounts-i c = in-kept-amounts c.before.before
+
+pub offset_bounds-amounts-i : goal.offset_bounds-amounts-i
+offset_bounds-amounts-i c = let h = in-amounts c.before.before in omega arith
+
+pub bounds-amounts-i : goal.bounds-amounts-i
+bounds-amounts-i c = in-amounts c.before.before
+
+pub overflow_add-i : goal.overflow_add-i
+overflow_add-i c = let h = in-days c.before.before in omega arith
+
+pub loop-i-smaller : goal.loop-i-smaller
+loop-i-smaller c = let h = c.loop-i-test.true in omega arith
+
+pub loop-i-preserved : goal.loop-i-preserved
+loop-i-preserved c =
+    let l = c.loop-i in
+    (omega (arith, c.loop-i-test.true), filled_next _ _ _ l.i 0 l.days (in-kept-days c.before.before) (in-days c.before.before) l.invariant.1, filled_next _ _ _ l.i nan l.amounts (in-kept-amounts c.before.before) (in-amounts c.before.before) l.invariant.2)
+
+pub shape_of-days : goal.shape_of-days
+shape_of-days c = c.loop-i.invariant.1.same_length
+
+pub shape_of-amounts : goal.shape_of-amounts
+shape_of-amounts c = c.loop-i.invariant.2.same_length
+
+pub returns : goal.returns
+returns c =
+    let l = c.loop-i in
+    let e : l.i ≡ c.args.n = omega (arith, l.invariant.0, c.loop-i-test.false) in
+    (rw e at (filled_part _ _ l.i _ l.days (omega (arith, c.requires.1, l.invariant.1.same_length)) l.invariant.1), rw e at (filled_part _ _ l.i _ l.amounts (omega (arith, c.requires.1, l.invariant.2.same_length)) l.invariant.2))

@@ -1,0 +1,24 @@
+-- `term_text::put_text` meets its contract: the day, and the dot and month behind it.
+use native.Mathlib.Omega.{arith}
+use Rattle.number_text.proofs.write.Putting.{wrote_then}
+use Rattle.term_text.specs.coupon.CouponTexts.{coupon_date_text}
+use Rattle.term_text.proofs.coupon.Texts.{text_length}
+use Rattle.term_text.proofs.coupon.put_text.Goals as goal
+
+pub put_padded-at-requires : goal.put_padded-at-requires
+put_padded-at-requires c =
+    let start : tie.Start = c.before.before.before in
+    omega (arith, start.requires, text_length start.args.c)
+
+pub put_month-requires : goal.put_month-requires
+put_month-requires c =
+    let start : tie.Start = c.before.before.before.before.before.before.before in
+    let day : tie.After-put-padded = c.before.before.before in
+    omega (arith, start.requires, text_length start.args.c, day.put-padded.ensures.1, day.put-padded.auto.1.1.0)
+
+pub returns : goal.returns
+unfolding coupon_date_text
+returns c =
+    let start : tie.Start = c.before.before.before.before.before.before.before.before.before.before in
+    let day : tie.After-put-padded = c.before.before.before.before.before.before in
+    wrote_then _ _ _ _ _ _ _ _ day.put-padded.ensures c.put_month.ensures (omega (arith, start.requires, text_length start.args.c))

@@ -8,8 +8,9 @@ use lib.Pow.{pow_mono}
 use Rattle.bit_fields.specs.Bits.{bytes_number}
 use Rattle.bit_fields.proofs.Bits.{bytes-none, bytes_next, bytes_seven, bytes_below}
 use Rattle.bit_fields.proofs.bytes_number.Goals as goal
+use Rattle.bit_fields.proofs.bytes_number.Goals.{In-loop-i}
 
-small : (c : goal.In-loop-i) → c.loop-i.n < 72057594037927936
+small : (c : In-loop-i) → c.loop-i.n < 72057594037927936
 small c =
     let l = c.loop-i in
     let a = c.args in

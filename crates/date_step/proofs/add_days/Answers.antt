@@ -16,19 +16,19 @@ use Rattle.calendar.proofs.dates.Dates.{date-yes, number-to}
 use Rattle.date_step.specs.Steps.{from_zero_to, add_days, days_later}
 use Rattle.date_step.proofs.Landing.{far_back, far_on, near}
 use Rattle.date_step.proofs.add_days.Goals as goal
-use Rattle.date_step.proofs.add_days.Goals.{Start}
+use Rattle.date_step.proofs.add_days.Goals.{Start, Else-not-is_date, Then-not-is_date}
 
 -- a test on the signed number, as it is read back
 kept : (c : Start) {b : Bool} (f : ℤ → Bool) → f (to_z w64 (of_z w64 c.args.n)) ≡ b → f c.args.n ≡ b
 kept c f e = ap f (sym (to_z-of_z c.ranges.n)) ∙ e
 
-undated : (c : goal.Then-not-is_date) → is_date c.args.t ≡ false
+undated : (c : Then-not-is_date) → is_date c.args.t ≡ false
 undated c = sym c.is_date.ensures ∙ c.if-not-is_date.true
 
-dated : (c : goal.Else-not-is_date) → is_date c.args.t ≡ true
+dated : (c : Else-not-is_date) → is_date c.args.t ≡ true
 dated c = sym c.is_date.ensures ∙ c.if-not-is_date.false
 
-out : (c : goal.Else-not-is_date) → refused 1 ≡ from_zero_to 3652059 (pos (day_number c.args.t) +ℤ c.args.n) → refused 1 ≡ add_days c.args.t c.args.n
+out : (c : Else-not-is_date) → refused 1 ≡ from_zero_to 3652059 (pos (day_number c.args.t) +ℤ c.args.n) → refused 1 ≡ add_days c.args.t c.args.n
 unfolding add_days days_later
 out c e = rw (dated c) (ap (λ (o : Outcome ℕ). and_then o (λ k. date_of (record { 0 = k }))) e)
 

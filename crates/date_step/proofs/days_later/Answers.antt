@@ -12,7 +12,7 @@ use Rattle.calendar.specs.declared.dates.Date.{Date}
 use Rattle.calendar.proofs.dates.Dates.{IsDate, date-yes, number-from, number-to}
 use Rattle.date_step.proofs.Steps.{landed, days-from_zero}
 use Rattle.date_step.proofs.days_later.Goals as goal
-use Rattle.date_step.proofs.days_later.Goals.{Start}
+use Rattle.date_step.proofs.days_later.Goals.{Start, After-moved, In-To-2}
 
 -- the date of a day counted from 0
 abbrev on : ℕ → Outcome Date
@@ -22,11 +22,11 @@ dated : (c : Start) → IsDate c.args.t
 dated c = date-yes c.args.t c.requires.0
 
 -- the number reached
-moved : (c : goal.After-moved) → moved_outcome c.moved.result ≡ from_zero_to 3652058 (pos (day_number c.args.t - 1) +ℤ c.args.n)
+moved : (c : After-moved) → moved_outcome c.moved.result ≡ from_zero_to 3652058 (pos (day_number c.args.t - 1) +ℤ c.args.n)
 moved c =
     c.moved.ensures ∙ ap₂ (λ (k : ℕ) (z : ℤ). from_zero_to 3652058 (pos (k - 1) +ℤ z)) c.day_of_date.ensures (to_z-of_z c.ranges.n)
 
-reached : (c : goal.In-To-2) → c.in-To.i ≤ 3652058
+reached : (c : In-To-2) → c.in-To.i ≤ 3652058
 reached c = (landed 3652058 _ c.in-To.i (sym (moved c.before.before) ∙ ap moved_outcome c.in-To.is)).1
 
 pub day_of_date-requires : goal.day_of_date-requires

@@ -12,14 +12,14 @@ use Rattle.date_step.proofs.Landing.{wide_short}
 use Rattle.date_step.proofs.Steps.{landed}
 use Rattle.calendar.proofs.dates.Dates.{IsDate, date-yes}
 use Rattle.date_step.proofs.months_later.Goals as goal
-use Rattle.date_step.proofs.months_later.Goals.{Start}
+use Rattle.date_step.proofs.months_later.Goals.{Start, After-moved}
 
 -- the bounds of the date
 dated : (c : Start) → IsDate c.args.t
 dated c = date-yes c.args.t c.requires
 
 -- the number reached
-moved : (c : goal.After-moved) → moved_outcome c.moved.result ≡ from_zero_to 119987 (pos (month_index c.args.t) +ℤ c.args.n)
+moved : (c : After-moved) → moved_outcome c.moved.result ≡ from_zero_to 119987 (pos (month_index c.args.t) +ℤ c.args.n)
 moved c =
     c.moved.ensures ∙ ap (λ (z : ℤ). from_zero_to 119987 (pos (month_index c.args.t) +ℤ z)) (widened c.args.n c.ranges.n)
 

@@ -13,7 +13,7 @@ use mir.Facts.{to_z_pos, Fits-of_lt}
 use Rattle.outcome.specs.Outcome.{Outcome, given}
 use Rattle.date_step.proofs.Landing.{below, beyond, lands, within, sum_fits, summed_fits, summed_read}
 use Rattle.date_step.proofs.moved.Goals as goal
-use Rattle.date_step.proofs.moved.Goals.{Start}
+use Rattle.date_step.proofs.moved.Goals.{Start, Else-to-lt0}
 
 few : (c : Start) → c.args.at < 2 ^ 63
 few c = omega (arith, c.requires.0)
@@ -26,7 +26,7 @@ sum_is : (c : Start) → to_z w64 (of_z w64 (to_z w64 c.args.at +ℤ to_z w64 (o
 sum_is c = summed_read c.args.at c.args.n (few c) c.ranges.n (fits c)
 
 -- past the first test it is not negative
-whole : (c : goal.Else-to-lt0) → T (non_neg (pos c.args.at +ℤ c.args.n))
+whole : (c : Else-to-lt0) → T (non_neg (pos c.args.at +ℤ c.args.n))
 whole c = yes_non_neg {z = pos c.args.at +ℤ c.args.n} (lt_z_no (subst (λ (z : ℤ). T (not (lt_z z (pos 0)))) (sum_is c.before) (subst (λ (b : Bool). T (not b)) (sym c.if-to-lt0.false) tt)))
 
 -- the second test is against the last

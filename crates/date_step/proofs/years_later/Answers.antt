@@ -10,13 +10,14 @@ use Rattle.outcome.proofs.Numbers.{widened, wide_fits}
 use Rattle.date_step.proofs.Landing.{wide_short}
 use Rattle.calendar.proofs.dates.Dates.{date-yes}
 use Rattle.date_step.proofs.years_later.Goals as goal
+use Rattle.date_step.proofs.years_later.Goals.{After-moved}
 
 -- the same month and day of a year
 abbrev on : Date → ℕ → Outcome Date
 on t y = existing_date (record { year = y; month = t.month; day = t.day })
 
 -- the number reached
-moved : (c : goal.After-moved) → moved_outcome c.moved.result ≡ from_zero_to 9999 (pos c.args.t.year +ℤ c.args.n)
+moved : (c : After-moved) → moved_outcome c.moved.result ≡ from_zero_to 9999 (pos c.args.t.year +ℤ c.args.n)
 moved c =
     c.moved.ensures ∙ ap (λ (z : ℤ). from_zero_to 9999 (pos c.args.t.year +ℤ z)) (widened c.args.n c.ranges.n)
 

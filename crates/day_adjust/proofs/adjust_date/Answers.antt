@@ -9,12 +9,13 @@ use Rattle.day_adjust.specs.Adjustment.{adjust_date}
 use Rattle.business_days.proofs.table.Table.{table_ascends}
 use Rattle.day_adjust.proofs.Adjusting.{judged-at, open_stays, shut_moves}
 use Rattle.day_adjust.proofs.adjust_date.Goals as goal
+use Rattle.day_adjust.proofs.adjust_date.Goals.{Else-not-is_date, In-At}
 
 -- past its test the date is one, and where the day has a place the table is one
-dated : (c : goal.Else-not-is_date) → is_date c.args.t ≡ true
+dated : (c : Else-not-is_date) → is_date c.args.t ≡ true
 dated c = sym c.is_date.ensures ∙ c.if-not-is_date.false
 
-placed : (c : goal.In-At) → (is_table c.args.table.now ≡ true) × IsLowerBound c.args.table.now c.day_of_date-n.result c.in-At.i
+placed : (c : In-At) → (is_table c.args.table.now ≡ true) × IsLowerBound c.args.table.now c.day_of_date-n.result c.in-At.i
 placed c = subst (Placed _ _) c.in-At.is c.IsPlace-in.ensures
 
 pub returns-then-not-is_date : goal.returns-then-not-is_date

@@ -11,6 +11,7 @@ use Rattle.calendar.specs.serial.Answers.{date_outcome}
 use Rattle.calendar.specs.declared.dates.Date.{Date}
 use Rattle.day_adjust.specs.Adjustment.{next_date, prev_date}
 use Rattle.day_adjust.proofs.ahead_date.Goals as goal
+use Rattle.day_adjust.proofs.ahead_date.Goals.{After-next_date}
 
 -- the month test
 abbrev tested : List ℕ → ℕ → ℕ → Bool → Date → Outcome Date
@@ -27,10 +28,10 @@ picked-other : (b e : Bool) (x y : Outcome Date) → b ≡ false → e ≡ false
 picked-other b e x y h k = rw (h, k)
 
 -- what the day that was found leads to
-after : (c : goal.After-next_date) → Outcome Date → Outcome Date
+after : (c : After-next_date) → Outcome Date → Outcome Date
 after c o = let a = c.args in and_then o (tested a.table.now a.n a.t.month a.across)
 
-leads : (c : goal.After-next_date) (o : Outcome Date) → date_outcome c.next_date.result ≡ o → after c o ≡ after c (next_date c.args.table.now c.args.n)
+leads : (c : After-next_date) (o : Outcome Date) → date_outcome c.next_date.result ≡ o → after c o ≡ after c (next_date c.args.table.now c.args.n)
 leads c o e = ap (after c) (sym e ∙ c.next_date.ensures)
 
 pub returns-then-across : goal.returns-then-across

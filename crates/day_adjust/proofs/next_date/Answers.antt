@@ -12,12 +12,13 @@ use Rattle.day_adjust.specs.Adjustment.{next_date}
 use Rattle.calendar.proofs.dates.Inverse.{date_on-day}
 use Rattle.day_adjust.proofs.Adjusting.{judged-at}
 use Rattle.day_adjust.proofs.next_date.Goals as goal
+use Rattle.day_adjust.proofs.next_date.Goals.{In-Day-2}
 
 -- the day that the search found
-found : (c : goal.In-Day-2) → next_from c.args.table.now c.args.n ≡ given c.in-Day.d
+found : (c : In-Day-2) → next_from c.args.table.now c.args.n ≡ given c.in-Day.d
 found c = sym c.next_at.ensures ∙ ap day_outcome c.in-Day.is
 
-dated : (c : goal.In-Day-2) → (1 ≤ c.in-Day.d.0) × (c.in-Day.d.0 ≤ 3652059)
+dated : (c : In-Day-2) → (1 ≤ c.in-Day.d.0) × (c.in-Day.d.0 ≤ 3652059)
 dated c =
     let g = next_gives c.args.table.now c.args.n c.in-Day.d (found c) in
     let h = judged-at c.args.t c.args.n c.args.table.now c.requires.1 c.requires.0 c.requires.2 in

@@ -6,9 +6,10 @@ use Rattle.accrued_interest.specs.note.Accrued.{coupon_period_outcome, period_ho
 use Rattle.accrued_interest.specs.declared.period.CouponPeriod.{CouponPeriod}
 use Rattle.accrued_interest.proofs.note.Walk.{holding_stops}
 use Rattle.accrued_interest.proofs.note.accrued_from.Goals as goal
+use Rattle.accrued_interest.proofs.note.accrued_from.Goals.{In-Period-2}
 
 -- the period that the walk gives
-held : (c : goal.In-Period-2) → period_holding c.args.note c.args.today c.args.first ≡ given c.in-Period.p
+held : (c : In-Period-2) → period_holding c.args.note c.args.today c.args.first ≡ given c.in-Period.p
 held c = sym c.period_holding.ensures ∙ ap coupon_period_outcome c.in-Period.is
 
 pub accrued_in-requires : goal.accrued_in-requires

@@ -13,14 +13,14 @@ use Rattle.bond.proofs.note.Ends.{passed}
 use Rattle.accrued_interest.specs.note.Accrued.{accrued_on, accrued, amounts_in_f64}
 use Rattle.accrued_interest.proofs.note.Bound.{promised}
 use Rattle.accrued_interest.proofs.note.accrued_interest.Goals as goal
-use Rattle.accrued_interest.proofs.note.accrued_interest.Goals.{Start}
+use Rattle.accrued_interest.proofs.note.accrued_interest.Goals.{Start, In-Note-2}
 
 -- the rate is an f64
 rate-fits : (c : Start) → T (fits binary64 c.args.note.rate)
 rate-fits c = search rules
 
 -- the note that its checks give
-checked : (c : goal.In-Note-2) → note_checks true true c.args.note ≡ given c.in-Note.n
+checked : (c : In-Note-2) → note_checks true true c.args.note ≡ given c.in-Note.n
 checked c = sym c.check_note.ensures ∙ ap note_outcome c.in-Note.is
 
 pub accrued_on-requires : goal.accrued_on-requires

@@ -9,12 +9,13 @@ use Rattle.calendar.specs.declared.dates.Date.{Date}
 use Rattle.accrued_interest.specs.note.Accrued.{running, accrued_from, accrued_on, amounts_in_f64}
 use Rattle.accrued_interest.proofs.note.Walk.{first_begun}
 use Rattle.accrued_interest.proofs.note.accrued_on.Goals as goal
+use Rattle.accrued_interest.proofs.note.accrued_on.Goals.{Else-is_before, Else-not-is_date}
 
 -- today is a date of the calendar, and not before the issue
-dated : (c : goal.Else-not-is_date) → is_date c.args.today ≡ true
+dated : (c : Else-not-is_date) → is_date c.args.today ≡ true
 dated c = sym c.is_date.ensures ∙ c.if-not-is_date.false
 
-issued : (c : goal.Else-is_before) → is_before c.args.today c.args.note.issue_date ≡ false
+issued : (c : Else-is_before) → is_before c.args.today c.args.note.issue_date ≡ false
 issued c = sym c.is_before.ensures ∙ c.if-is_before.false
 
 pub returns-then-not-is_date : goal.returns-then-not-is_date

@@ -7,13 +7,14 @@ use Rattle.calendar.specs.serial.Answers.{date_outcome}
 use Rattle.accrued_interest.specs.note.Accrued.{running, next_period, goes_on}
 use Rattle.accrued_interest.proofs.note.Walk.{next-given, next-refused, next_begun, holding_next, holding_refused, holding_there}
 use Rattle.accrued_interest.proofs.note.period_holding.Goals as goal
+use Rattle.accrued_interest.proofs.note.period_holding.Goals.{In-Date-2, In-loop-start}
 
 -- there was more to go, and the step was made
-going : (c : goal.In-loop-start) → goes_on c.args.note c.args.today (running c.loop-start.start c.loop-start.end) ≡ true
+going : (c : In-loop-start) → goes_on c.args.note c.args.today (running c.loop-start.start c.loop-start.end) ≡ true
 unfolding goes_on
 going c = sym c.is_past.ensures ∙ c.loop-start-test.true
 
-turned : (c : goal.In-Date-2) → next_period c.args.note (running c.loop-start.start c.loop-start.end) ≡ given (running c.loop-start.end c.in-Date.next)
+turned : (c : In-Date-2) → next_period c.args.note (running c.loop-start.start c.loop-start.end) ≡ given (running c.loop-start.end c.in-Date.next)
 turned c = next-given _ (running c.loop-start.start c.loop-start.end) _ (sym c.next_end.ensures ∙ ap date_outcome c.in-Date.is)
 
 pub loop-start-init : goal.loop-start-init

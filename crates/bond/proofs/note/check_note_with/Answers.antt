@@ -5,15 +5,16 @@ use borrow.Author.Tests.{not-true}
 use Rattle.bond.specs.limits.Limits.{is_note_number, is_coupon_rate}
 use Rattle.bond.specs.note.Notes.{note_checks}
 use Rattle.bond.proofs.note.check_note_with.Goals as goal
+use Rattle.bond.proofs.note.check_note_with.Goals.{Else-not-is_coupon_rate, Else-not-is_note_number, Else-not-position}
 
 -- the tests that held
-numbered : (c : goal.Else-not-is_note_number) → is_note_number c.args.note.number ≡ true
+numbered : (c : Else-not-is_note_number) → is_note_number c.args.note.number ≡ true
 numbered c = sym c.is_note_number.ensures ∙ c.if-not-is_note_number.false
 
-rated : (c : goal.Else-not-is_coupon_rate) → is_coupon_rate c.args.note.rate ≡ true
+rated : (c : Else-not-is_coupon_rate) → is_coupon_rate c.args.note.rate ≡ true
 rated c = sym c.is_coupon_rate.ensures ∙ c.if-not-is_coupon_rate.false
 
-placed : (c : goal.Else-not-position) → c.args.position ≡ true
+placed : (c : Else-not-position) → c.args.position ≡ true
 placed c = c.if-not-position.false
 
 pub returns-then-not-is_note_number : goal.returns-then-not-is_note_number

@@ -10,18 +10,19 @@ use borrow.Author.Tests.{not-true}
 use Rattle.outcome.proofs.Numbers.{at_most, not_at_most}
 use Rattle.bond.specs.note.Notes.{period_checks}
 use Rattle.bond.proofs.note.check_period.Goals as goal
+use Rattle.bond.proofs.note.check_period.Goals.{After-struct_told-1, Else-not-table, Else-period-lt1}
 
 -- the table is taken
-taken : (c : goal.Else-not-table) → c.args.table ≡ true
+taken : (c : Else-not-table) → c.args.table ≡ true
 taken c = c.if-not-table.false
 
 -- the number, as it is read back
-kept : (c : goal.After-struct_told-1) → to_z w32 (of_z w32 c.args.note.period.num) ≡ c.args.note.period.num
+kept : (c : After-struct_told-1) → to_z w32 (of_z w32 c.args.note.period.num) ≡ c.args.note.period.num
 kept c =
     let f : SFits w32 c.args.note.period.num = record { sfits = c.struct_told-1.given.0.1 } in
     to_z-of_z f
 
-at_least_one : (c : goal.Else-period-lt1) → lt_z c.args.note.period.num (pos 1) ≡ false
+at_least_one : (c : Else-period-lt1) → lt_z c.args.note.period.num (pos 1) ≡ false
 at_least_one c = subst (λ (z : ℤ). lt_z z (pos 1) ≡ false) (kept c.before) c.if-period-lt1.false
 
 pub returns-then-not-table : goal.returns-then-not-table

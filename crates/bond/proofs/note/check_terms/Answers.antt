@@ -7,12 +7,13 @@ use Rattle.coupon_date.specs.Coupons.{coupon_outcome}
 use Rattle.coupon_date.specs.declared.CouponDate.{CouponDate}
 use Rattle.bond.specs.note.Notes.{period_checks, term_checks}
 use Rattle.bond.proofs.note.check_terms.Goals as goal
+use Rattle.bond.proofs.note.check_terms.Goals.{Else-not-is_date, Else-not-is_date-2}
 
 -- both dates exist
-issued : (c : goal.Else-not-is_date) → is_date c.args.note.issue_date ≡ true
+issued : (c : Else-not-is_date) → is_date c.args.note.issue_date ≡ true
 issued c = sym c.is_date.ensures ∙ c.if-not-is_date.false
 
-matures : (c : goal.Else-not-is_date-2) → is_date c.args.note.maturity ≡ true
+matures : (c : Else-not-is_date-2) → is_date c.args.note.maturity ≡ true
 matures c = sym c.is_date-2.ensures ∙ c.if-not-is_date-2.false
 
 pub returns-then-not-is_date : goal.returns-then-not-is_date

@@ -5,9 +5,10 @@ use mathlib.Core.Bool.{true}
 use Rattle.business_days.specs.table.Table.{is_table}
 use Rattle.business_days.proofs.table.Table.{table_ascends}
 use Rattle.business_days.proofs.table.place_in.Goals as goal
+use Rattle.business_days.proofs.table.place_in.Goals.{Else-not-is_table}
 
 -- past its test the table is one
-tabled : (c : goal.Else-not-is_table) → is_table c.args.table.now ≡ true
+tabled : (c : Else-not-is_table) → is_table c.args.table.now ≡ true
 tabled c = sym c.is_table.ensures ∙ c.if-not-is_table.false
 
 pub returns-then-not-is_table : goal.returns-then-not-is_table

@@ -5,8 +5,9 @@ use native.Mathlib.Omega.{arith}
 use Rattle.calendar.proofs.gregorian.Months.{year_most}
 use Rattle.calendar.proofs.convert.March.{year_to, in_first_year, in_next_year}
 use Rattle.calendar.proofs.convert.date_of_day.Goals as goal
+use Rattle.calendar.proofs.convert.date_of_day.Goals.{After-march_day-at}
 
-few : (c : goal.After-march_day-at) → c.march_day-at.result.day < 366
+few : (c : After-march_day-at) → c.march_day-at.result.day < 366
 few c = omega (arith, c.march_day-at.ensures.1, year_most (suc c.march_day-at.result.year))
 
 pub overflow_mul-both : goal.overflow_mul-both

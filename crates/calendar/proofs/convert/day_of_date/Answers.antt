@@ -1,21 +1,25 @@
 -- `calendar::day_of_date` meets its contract: a year that begins in March counts its days by one
 -- rule.
-use mathlib.Core.Logic.{⊎_elim}
 use native.Mathlib.Omega.{arith}
 use Rattle.calendar.proofs.dates.Dates.{IsDate, date-yes, number-to, number-from}
 use Rattle.calendar.proofs.convert.March.{Counted, counted_late, counted_early, less_306}
 use Rattle.calendar.proofs.convert.day_of_date.Goals as goal
-use Rattle.calendar.proofs.convert.day_of_date.Goals.{Start}
+use Rattle.calendar.proofs.convert.day_of_date.Goals.{then-t-lt3, else-t-lt3, then-t-lt3-2, else-t-lt3-2}
+use Rattle.calendar.proofs.convert.day_of_date.Goals.{Start, Joined-t-lt3-2}
 
 dated : (c : Start) → IsDate c.args.t
 dated c = date-yes c.args.t c.requires
 
-counted : (c : goal.Joined-t-lt3-2) → Counted c.args.t c.if-t-lt3.year c.if-t-lt3-2.month
+counted : (c : Joined-t-lt3-2) → Counted c.args.t c.if-t-lt3.year c.if-t-lt3-2.month
 counted c =
-    ⊎_elim
-    (λ w. ⊎_elim (λ v. counted_early c.args.t _ _ (dated c.before.before.before.before) w.0.taken w.2 v.2) (λ v. absurd (omega (arith, w.0.taken, v.0.left))) c.if-t-lt3-2.branch)
-    (λ w. ⊎_elim (λ v. absurd (omega (arith, w.0.left, v.0.taken))) (λ v. counted_late c.args.t _ _ (dated c.before.before.before.before) w.0.left w.1 v.1) c.if-t-lt3-2.branch)
-    c.if-t-lt3.branch
+    let d : IsDate c.args.t = date-yes c.args.t c.requires in
+    elim c.if-t-lt3.branch [
+      then-t-lt3 w ↦ elim c.if-t-lt3-2.branch [
+        then-t-lt3-2 v ↦ counted_early c.args.t _ _ d w.if-t-lt3.true w.year-is v.month-is
+        | else-t-lt3-2 v ↦ absurd (omega arith) ]
+      | else-t-lt3 w ↦ elim c.if-t-lt3-2.branch [
+        then-t-lt3-2 v ↦ absurd (omega arith)
+        | else-t-lt3-2 v ↦ counted_late c.args.t _ _ d w.if-t-lt3.false w.year-is v.month-is ] ]
 
 pub overflow_sub-year : goal.overflow_sub-year
 overflow_sub-year c = (dated c.before.before.before).year_from

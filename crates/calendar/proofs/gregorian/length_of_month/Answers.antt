@@ -20,4 +20,4 @@ pub returns-else-is_leap : goal.returns-else-is_leap
 returns-else-is_leap c = february _ c.in-2.is (sym c.is_leap.ensures ∙ c.if-is_leap.false)
 
 pub returns-in_default : goal.returns-in_default
-returns-in_default c = none _ _ c.in_default-own.rest.0.0.0.1 c.in_default-own.rest.0.0.1 c.in_default-own.rest.0.1 c.in_default-own.rest.1
+returns-in_default c = none _ _ c.in_default.in_default-own.rest.0.0.0.1 c.in_default.in_default-own.rest.0.0.1 c.in_default.in_default-own.rest.0.1 c.in_default.in_default-own.rest.1

@@ -8,12 +8,13 @@ use Rattle.calendar.specs.dates.Dates.{is_day}
 use Rattle.calendar.specs.serial.Answers.{day_after}
 use Rattle.calendar.proofs.dates.Dates.{day-yes}
 use Rattle.calendar.proofs.serial.day_after.Goals as goal
+use Rattle.calendar.proofs.serial.day_after.Goals.{Else-not-is_day}
 
 -- past the first test the day is one of the calendar
-is-yes : (c : goal.Else-not-is_day) → is_day c.args.d ≡ true
+is-yes : (c : Else-not-is_day) → is_day c.args.d ≡ true
 is-yes c = sym c.is_day.ensures ∙ c.if-not-is_day.false
 
-dayed : (c : goal.Else-not-is_day) → (1 ≤ c.args.d.0) × (c.args.d.0 ≤ 3652059)
+dayed : (c : Else-not-is_day) → (1 ≤ c.args.d.0) × (c.args.d.0 ≤ 3652059)
 dayed c = day-yes c.args.d (is-yes c)
 
 pub returns-then-not-is_day : goal.returns-then-not-is_day

@@ -7,12 +7,13 @@ use Rattle.cash_flow.specs.round.RoundedAmounts.{is_roundable, power_of_ten}
 use Rattle.cash_flow.proofs.round.Meaning.{rounding_means, product_finite, finite_not_nan}
 use Rattle.cash_flow.proofs.round.Answers.{answer-refused, answer-given, roundable_width}
 use Rattle.cash_flow.proofs.round.round2digits.Goals as goal
+use Rattle.cash_flow.proofs.round.round2digits.Goals.{After-ten_to-power, Else-not-is_roundable}
 
 -- the digits are read back from their bits
-roundable : (c : goal.Else-not-is_roundable) → is_roundable c.args.x c.args.digits ≡ true
+roundable : (c : Else-not-is_roundable) → is_roundable c.args.x c.args.digits ≡ true
 roundable c = sym (rw (to_z-of_z c.ranges.digits) at c.is_roundable.ensures) ∙ c.if-not-is_roundable.false
 
-power : (c : goal.After-ten_to-power) → c.ten_to-power.result ≡ power_of_ten c.args.digits
+power : (c : After-ten_to-power) → c.ten_to-power.result ≡ power_of_ten c.args.digits
 power c = rw (to_z-of_z c.ranges.digits) at c.ten_to-power.ensures
 
 pub returns-then-not-is_roundable : goal.returns-then-not-is_roundable

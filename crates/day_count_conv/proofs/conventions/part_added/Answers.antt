@@ -7,9 +7,10 @@ use mir.Val.{SFits}
 use mir.Facts.{to_z-of_z}
 use Rattle.day_count_conv.specs.conventions.Conventions.{part_added}
 use Rattle.day_count_conv.proofs.conventions.part_added.Goals as goal
+use Rattle.day_count_conv.proofs.conventions.part_added.Goals.{In-Part}
 
 -- the days fit 32 bits
-days_fit : (c : goal.In-Part) → SFits w32 c.in-Part.days
+days_fit : (c : In-Part) → SFits w32 c.in-Part.days
 days_fit c = record { sfits = c.known_told-1.given.0.1 }
 
 pub returns-in-Part : goal.returns-in-Part

@@ -14,14 +14,15 @@ use Rattle.icma.specs.declared.parts.Parts.{Parts}
 use Rattle.outcome.proofs.Numbers.{at_most, not_at_most}
 use Rattle.time_period.proofs.steps.Signs.{positive}
 use Rattle.day_count_conv.proofs.conventions.walked.Goals as goal
+use Rattle.day_count_conv.proofs.conventions.walked.Goals.{After-struct_told-1, Else-p-lt1}
 
 -- the number, as it is read back, and its test
-kept : (c : goal.After-struct_told-1) → to_z w32 (of_z w32 c.args.p.num) ≡ c.args.p.num
+kept : (c : After-struct_told-1) → to_z w32 (of_z w32 c.args.p.num) ≡ c.args.p.num
 kept c =
     let f : SFits w32 c.args.p.num = record { sfits = c.struct_told-1.given.0.1 } in
     to_z-of_z f
 
-at_least_one : (c : goal.Else-p-lt1) → lt_z c.args.p.num (pos 1) ≡ false
+at_least_one : (c : Else-p-lt1) → lt_z c.args.p.num (pos 1) ≡ false
 at_least_one c = subst (λ (z : ℤ). lt_z z (pos 1) ≡ false) (kept c.before) c.if-p-lt1.false
 
 pub returns-then-p-lt1 : goal.returns-then-p-lt1

@@ -16,13 +16,14 @@ use Rattle.day_count_conv.specs.conventions.Conventions.{parts_bits}
 use Rattle.day_count_conv.specs.conventions.Whole.{whole_period}
 use Rattle.outcome.proofs.Numbers.{at_most, not_at_most}
 use Rattle.day_count_conv.proofs.conventions.whole_period.Goals as goal
+use Rattle.day_count_conv.proofs.conventions.whole_period.Goals.{After-struct_told-1, In-Frequency-2}
 
 -- the frequency found
-found : (c : goal.In-Frequency-2) → frequency_of c.args.p ≡ given c.in-Frequency.f
+found : (c : In-Frequency-2) → frequency_of c.args.p ≡ given c.in-Frequency.f
 found c = sym c.frequency.ensures ∙ ap frequency_outcome c.in-Frequency.is
 
 -- the number, as it is read back, and its test
-kept : (c : goal.After-struct_told-1) → to_z w32 (of_z w32 c.args.p.num) ≡ c.args.p.num
+kept : (c : After-struct_told-1) → to_z w32 (of_z w32 c.args.p.num) ≡ c.args.p.num
 kept c =
     let f : SFits w32 c.args.p.num = record { sfits = c.struct_told-1.given.0.1 } in
     to_z-of_z f

@@ -8,9 +8,10 @@ use Rattle.day_fraction.specs.Fractions.{Span}
 use Rattle.day_count_conv.proofs.conventions.Judged.{spans, span_fraction}
 use Rattle.day_count_conv.proofs.conventions.Bounds.{promised}
 use Rattle.day_count_conv.proofs.fractions.year_fraction.Goals as goal
+use Rattle.day_count_conv.proofs.fractions.year_fraction.Goals.{Else-is_before}
 
 -- the two dates are in order
-span : (c : goal.Else-is_before) → Span (begun c.before.before).args.start (begun c.before.before).args.end
+span : (c : Else-is_before) → Span (begun c.before.before).args.start (begun c.before.before).args.end
 span c = spans _ _ (starts c.before.before) (ends c.before.before) (sym c.is_before.ensures ∙ c.if-is_before.false)
 
 pub returns-then-not-is_date : goal.returns-then-not-is_date

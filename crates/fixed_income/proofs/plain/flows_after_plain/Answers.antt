@@ -12,9 +12,10 @@ use Rattle.fixed_income.specs.plain.Plain.{plain_flows, shortest, days_written, 
 use Rattle.fixed_income.specs.records.Promises.{is_refused}
 use Rattle.fixed_income.proofs.plain.Columns.{listed_length, days_decide, all_kept}
 use Rattle.fixed_income.proofs.plain.flows_after_plain.Goals as goal
+use Rattle.fixed_income.proofs.plain.flows_after_plain.Goals.{After-answer_plain}
 
 -- the answer is the one that the three lists decide
-answered : (c : goal.After-answer_plain) → flows_outcome c.answer_plain.result ≡ counted (listed_written c.args.day (plain_flows c.args.days.now c.args.currencies.now c.args.amounts.now) (shortest (length c.args.out-days.now) (length c.args.out-currencies.now) (length c.args.out-amounts.now)))
+answered : (c : After-answer_plain) → flows_outcome c.answer_plain.result ≡ counted (listed_written c.args.day (plain_flows c.args.days.now c.args.currencies.now c.args.amounts.now) (shortest (length c.args.out-days.now) (length c.args.out-currencies.now) (length c.args.out-amounts.now)))
 answered c =
     c.answer_plain.ensures
     ∙ ap (λ (m : ℕ). counted (days_written c.args.day (take c.shortest_of-n.result c.args.days.now) m)) c.shortest_of-places.ensures

@@ -8,8 +8,9 @@ use lib.ListN.{length}
 use Rattle.fixed_income.specs.plain.Plain.{plain_flows}
 use Rattle.fixed_income.proofs.plain.Columns.{listed_at_lem, listed_at, writing_none, places_for, writing_yes, writing_no, writing_all}
 use Rattle.fixed_income.proofs.plain.write_plain.Goals as goal
+use Rattle.fixed_income.proofs.plain.write_plain.Goals.{Then-day-due}
 
-writable : (c : goal.Then-day-due) → (c.loop-i.k < length c.loop-i.out-days) × (c.loop-i.k < length c.loop-i.out-currencies) × (c.loop-i.k < length c.loop-i.out-amounts)
+writable : (c : Then-day-due) → (c.loop-i.k < length c.loop-i.out-days) × (c.loop-i.k < length c.loop-i.out-currencies) × (c.loop-i.k < length c.loop-i.out-amounts)
 writable c =
     let l = c.loop-i in
     places_for c.args.day (plain_flows c.args.days.now c.args.currencies.now c.args.amounts.now) c.args.out-days.now c.args.out-currencies.now c.args.out-amounts.now c.requires.1 l.i l.k l.out-days l.out-currencies l.out-amounts l.invariant (listed_at c.args.days.now c.args.currencies.now c.args.amounts.now l.i) (inside c.before.before.before) (listed_at_lem c.args.days.now c.args.currencies.now c.args.amounts.now l.i (inside c.before.before.before)) (lt-ltb _ _ c.if-day-due.true)

@@ -15,15 +15,16 @@ use Rattle.icma.specs.declared.parts.Broken.{Broken}
 use Rattle.time_period.proofs.steps.Steps.{step-later}
 use Rattle.icma.proofs.parts.Steps.{gap_kept}
 use Rattle.icma.proofs.parts.first_part.Goals as goal
+use Rattle.icma.proofs.parts.first_part.Goals.{Else-not-is_before, In-Date-2}
 
 abbrev shown : Date → Date → Date → Outcome Broken
 shown start b u = given (Part (pos (day_number u) -ℤ pos (day_number start)) (day_number u - day_number b))
 
 -- where the step led, and that the walk went past
-led : (c : goal.In-Date-2) → step c.args.p c.args.b ≡ given c.in-Date.u
+led : (c : In-Date-2) → step c.args.p c.args.b ≡ given c.in-Date.u
 led c = sym c.step.ensures ∙ ap date_outcome c.in-Date.is
 
-cut : (c : goal.Else-not-is_before) → is_before c.args.b c.args.start ≡ true
+cut : (c : Else-not-is_before) → is_before c.args.b c.args.start ≡ true
 cut c = sym c.is_before.ensures ∙ c.if-not-is_before.false
 
 pub returns-then-not-is_before : goal.returns-then-not-is_before

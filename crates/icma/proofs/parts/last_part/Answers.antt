@@ -15,15 +15,16 @@ use Rattle.icma.specs.declared.parts.Broken.{Broken}
 use Rattle.time_period.proofs.steps.Steps.{step_earlier}
 use Rattle.icma.proofs.parts.Steps.{gap_kept}
 use Rattle.icma.proofs.parts.last_part.Goals as goal
+use Rattle.icma.proofs.parts.last_part.Goals.{Else-not-is_before, In-Date-2}
 
 abbrev shown : Date → Date → Date → Outcome Broken
 shown end e s = given (Part (pos (day_number end) -ℤ pos (day_number s)) (day_number e - day_number s))
 
 -- where the step led, and that the walk went past
-led : (c : goal.In-Date-2) → step c.args.q c.args.e ≡ given c.in-Date.s
+led : (c : In-Date-2) → step c.args.q c.args.e ≡ given c.in-Date.s
 led c = sym c.step.ensures ∙ ap date_outcome c.in-Date.is
 
-cut : (c : goal.Else-not-is_before) → is_before c.args.end c.args.e ≡ true
+cut : (c : Else-not-is_before) → is_before c.args.end c.args.e ≡ true
 cut c = sym c.is_before.ensures ∙ c.if-not-is_before.false
 
 pub returns-then-not-is_before : goal.returns-then-not-is_before

@@ -8,8 +8,9 @@ use Rattle.icma.specs.parts.Walk.{walk_back, to_first, long_parts}
 use Rattle.icma.specs.declared.walks.Walked.{Walked}
 use Rattle.icma.proofs.walks.Walking.{back_ends}
 use Rattle.icma.proofs.parts.long_parts.Goals as goal
+use Rattle.icma.proofs.parts.long_parts.Goals.{In-Walked-2}
 
-walked : (c : goal.In-Walked-2) → walk_back c.args.q c.args.start c.args.base ≡ given c.in-Walked.b
+walked : (c : In-Walked-2) → walk_back c.args.q c.args.start c.args.base ≡ given c.in-Walked.b
 unfolding walk_back
 walked c = sym c.walk_back.ensures ∙ ap walk_outcome c.in-Walked.is
 

@@ -11,12 +11,13 @@ use Rattle.icma.specs.declared.parts.Parts.TheVariants.{Short}
 use Rattle.icma.specs.declared.parts.Parts.{Parts}
 use Rattle.time_period.proofs.steps.Steps.{step-later}
 use Rattle.icma.proofs.parts.short_parts.Goals as goal
+use Rattle.icma.proofs.parts.short_parts.Goals.{In-Date-2}
 
 abbrev shown : Date → Date → Date → Date → Outcome Parts
 shown start end base u = given (Short (day_number end - day_number start) (day_number u - day_number base))
 
 -- where the step led
-led : (c : goal.In-Date-2) → step c.args.p c.args.base ≡ given c.in-Date.u
+led : (c : In-Date-2) → step c.args.p c.args.base ≡ given c.in-Date.u
 led c = sym c.step.ensures ∙ ap date_outcome c.in-Date.is
 
 pub length-requires : goal.length-requires

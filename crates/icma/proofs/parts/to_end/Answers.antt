@@ -7,8 +7,9 @@ use Rattle.icma.specs.parts.Walk.{walk_on, to_last, to_end}
 use Rattle.icma.specs.declared.walks.Walked.{Walked}
 use Rattle.icma.proofs.walks.Walking.{on_ends}
 use Rattle.icma.proofs.parts.to_end.Goals as goal
+use Rattle.icma.proofs.parts.to_end.Goals.{In-Walked-2}
 
-walked : (c : goal.In-Walked-2) → walk_on c.args.p c.args.end c.args.base ≡ given c.in-Walked.e
+walked : (c : In-Walked-2) → walk_on c.args.p c.args.end c.args.base ≡ given c.in-Walked.e
 unfolding walk_on
 walked c = sym c.walk_on.ensures ∙ ap walk_outcome c.in-Walked.is
 

@@ -13,23 +13,24 @@ use Rattle.time_period.specs.declared.steps.TimePeriod.{TimePeriod}
 use Rattle.time_period.proofs.steps.Signs.{positive_not_least, minus_fits, minus_read, negative_back}
 use Rattle.icma.proofs.parts.Steps.{base_ends}
 use Rattle.icma.proofs.parts.walked_parts.Goals as goal
+use Rattle.icma.proofs.parts.walked_parts.Goals.{After-base_from, After-struct_told-1, In-Walked-2}
 
 -- the number fits, and the period made of its negative is the negated one
-num-fits : (c : goal.After-struct_told-1) → SFits w32 c.args.p.num
+num-fits : (c : After-struct_told-1) → SFits w32 c.args.p.num
 num-fits c = record { sfits = c.struct_told-1.given.0.1 }
 
-turned : (c : goal.After-struct_told-1) → ◌≡◌ {A = TimePeriod} (record { num = to_z w32 (of_z w32 (pos 0 -ℤ to_z w32 (of_z w32 c.args.p.num))); unit = c.args.p.unit }) (negated c.args.p)
+turned : (c : After-struct_told-1) → ◌≡◌ {A = TimePeriod} (record { num = to_z w32 (of_z w32 (pos 0 -ℤ to_z w32 (of_z w32 c.args.p.num))); unit = c.args.p.unit }) (negated c.args.p)
 turned c =
     let p = c.args.p in
     ap {B = TimePeriod} (λ (z : ℤ). record { num = z; unit = p.unit }) (minus_read p.num (num-fits c) (positive_not_least p.num c.requires.4))
 
 -- the base, as it was found
-found : (c : goal.After-base_from) → base_from c.args.p (negated c.args.p) c.args.start c.args.end c.args.roll ≡ walk_outcome c.base_from.result
+found : (c : After-base_from) → base_from c.args.p (negated c.args.p) c.args.start c.args.end c.args.roll ≡ walk_outcome c.base_from.result
 found c =
     let s = c.args in
     ap (λ (q : TimePeriod). base_from s.p q s.start s.end s.roll) (sym (turned c.before)) ∙ sym c.base_from.ensures
 
-based : (c : goal.In-Walked-2) → base_from c.args.p (negated c.args.p) c.args.start c.args.end c.args.roll ≡ given c.in-Walked.b
+based : (c : In-Walked-2) → base_from c.args.p (negated c.args.p) c.args.start c.args.end c.args.roll ≡ given c.in-Walked.b
 based c = found c.before.before ∙ ap walk_outcome c.in-Walked.is
 
 pub overflow_sub-q : goal.overflow_sub-q

@@ -10,25 +10,26 @@ use Rattle.icma.specs.declared.walks.Walked.{Walked}
 use Rattle.icma.proofs.walks.Walking.{ahead, ahead_is, behind, behind_is, End, on_ends}
 use Rattle.icma.proofs.walks.Skips.{OnTheWay, on_the_way, back_the_way}
 use Rattle.icma.proofs.walks.base_from.Goals as goal
+use Rattle.icma.proofs.walks.base_from.Goals.{After-skip_back, After-skip_on, In-Walked-2}
 
 -- the leap on leaves the same walk to be made
-way_on : (c : goal.After-skip_on) → OnTheWay (λ u. is_before u c.args.start) (turn_on c.args.p c.args.start) ahead c.args.roll c.skip_on.result
+way_on : (c : After-skip_on) → OnTheWay (λ u. is_before u c.args.start) (turn_on c.args.p c.args.start) ahead c.args.roll c.skip_on.result
 way_on c =
     let s : tie.Start = c.before in
     subst (OnTheWay _ _ ahead s.args.roll) (sym c.skip_on.ensures) (on_the_way s.args.p s.args.start s.args.roll s.requires.2 s.requires.0 s.requires.3)
 
-walked : (c : goal.In-Walked-2) → walk_on c.args.p c.args.start c.args.roll ≡ given c.in-Walked.a
+walked : (c : In-Walked-2) → walk_on c.args.p c.args.start c.args.roll ≡ given c.in-Walked.a
 unfolding walk_on
 walked c = sym (c.walk_on.ensures ∙ (way_on c.before.before.before).same) ∙ ap walk_outcome c.in-Walked.is
 
 -- where it ends
-ended : (c : goal.In-Walked-2) → End c.in-Walked.a
+ended : (c : In-Walked-2) → End c.in-Walked.a
 ended c =
     let s : tie.Start = c.before.before.before.before in
     (on_ends s.args.p s.args.start s.args.roll c.in-Walked.a s.requires.2 s.requires.3 (walked c)).0
 
 -- and so does the leap back
-way_back : (c : goal.After-skip_back) → OnTheWay (λ u. is_before c.args.end u) (turn_back c.args.q c.args.end) behind c.in-Walked.a.at c.skip_back.result
+way_back : (c : After-skip_back) → OnTheWay (λ u. is_before c.args.end u) (turn_back c.args.q c.args.end) behind c.in-Walked.a.at c.skip_back.result
 way_back c =
     let s : tie.Start = c.before.before.before.before.before.before in
     let t = c.in-Walked.a.at in

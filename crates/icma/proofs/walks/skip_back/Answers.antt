@@ -13,13 +13,14 @@ use Rattle.calendar.proofs.dates.Dates.{date-yes}
 use Rattle.icma.specs.walks.Skips.{is_months, is_uncut, leap_back}
 use Rattle.icma.specs.declared.walks.Walked.{Walked}
 use Rattle.icma.proofs.walks.skip_back.Goals as goal
+use Rattle.icma.proofs.walks.skip_back.Goals.{Else-not-is_uncut}
 
 -- where as many whole periods as fit lead
 abbrev leapt : ℕ → ℕ → ℕ → ℕ → Walked
 leapt h t n d = record { at = month_date (h - (h - t - 1) / n * n) d; count = (h - t - 1) / n }
 
 -- past the first test no step cuts the day
-uncut : (c : goal.Else-not-is_uncut) → is_uncut c.args.q c.args.from ≡ true
+uncut : (c : Else-not-is_uncut) → is_uncut c.args.q c.args.from ≡ true
 uncut c = sym c.is_uncut.ensures ∙ c.if-not-is_uncut.false
 
 pub returns-then-not-is_uncut : goal.returns-then-not-is_uncut

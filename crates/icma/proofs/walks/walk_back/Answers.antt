@@ -10,12 +10,13 @@ use Rattle.icma.specs.walks.Walks.{walk_outcome, turn_back}
 use Rattle.icma.proofs.walks.Walking.{behind, behind_is, turn_back_leads, walk_on_turn}
 use Rattle.icma.proofs.walks.Skips.{near_start}
 use Rattle.icma.proofs.walks.walk_back.Goals as goal
+use Rattle.icma.proofs.walks.walk_back.Goals.{In-Walked-2, In-loop-q}
 
 -- there was more to go, and the turn was made
-going : (c : goal.In-loop-q) → is_before c.args.limit c.loop-q.w.at ≡ true
+going : (c : In-loop-q) → is_before c.args.limit c.loop-q.w.at ≡ true
 going c = sym c.is_before.ensures ∙ c.loop-q-test.true
 
-turned : (c : goal.In-Walked-2) → turn_back c.args.q c.args.limit c.loop-q.w ≡ given c.in-Walked.v
+turned : (c : In-Walked-2) → turn_back c.args.q c.args.limit c.loop-q.w ≡ given c.in-Walked.v
 turned c = sym c.turn_back.ensures ∙ ap walk_outcome c.in-Walked.is
 
 pub loop-q-init : goal.loop-q-init

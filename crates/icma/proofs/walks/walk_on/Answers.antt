@@ -11,12 +11,13 @@ use Rattle.icma.specs.walks.Walks.{walk_outcome, turn_on}
 use Rattle.icma.proofs.walks.Walking.{ahead, ahead_is, turn_on_leads, walk_on_turn}
 use Rattle.icma.proofs.walks.Skips.{near_end}
 use Rattle.icma.proofs.walks.walk_on.Goals as goal
+use Rattle.icma.proofs.walks.walk_on.Goals.{In-Walked-2, In-loop-p}
 
 -- there was more to go, and the turn was made
-going : (c : goal.In-loop-p) → is_before c.loop-p.w.at c.args.limit ≡ true
+going : (c : In-loop-p) → is_before c.loop-p.w.at c.args.limit ≡ true
 going c = sym c.is_before.ensures ∙ c.loop-p-test.true
 
-turned : (c : goal.In-Walked-2) → turn_on c.args.p c.args.limit c.loop-p.w ≡ given c.in-Walked.v
+turned : (c : In-Walked-2) → turn_on c.args.p c.args.limit c.loop-p.w ≡ given c.in-Walked.v
 turned c = sym c.turn_on.ensures ∙ ap walk_outcome c.in-Walked.is
 
 pub loop-p-init : goal.loop-p-init

@@ -6,9 +6,10 @@ use Rattle.note_flows.specs.flows.Turns.{Turned}
 use Rattle.note_flows.proofs.flows.Dues.{step_turns}
 use Rattle.note_flows.proofs.flows.Collecting.{counting_stop, counting_end, collecting_none, collecting_more, collecting_stop, collecting_end}
 use Rattle.note_flows.proofs.flows.collect.Goals as goal
+use Rattle.note_flows.proofs.flows.collect.Goals.{After-next_flow_near-taken}
 
 -- the step turns, and where it pays
-turned-at : (c : goal.After-next_flow_near-taken) → Turned c.args.note c.args.position c.args.table.now c.loop-day.due c.next_flow_near-taken.result.step
+turned-at : (c : After-next_flow_near-taken) → Turned c.args.note c.args.position c.args.table.now c.loop-day.due c.next_flow_near-taken.result.step
 turned-at c =
     let s : tie.Start invariant-loop decreases-loop = c.before.before.before.before.before in
     step_turns s.args.note s.args.position s.args.table.now s.requires c.loop-day.due c.loop-day.invariant.counting.dated _ c.next_flow_near-taken.ensures

@@ -6,7 +6,7 @@ use Rattle.note_flows.specs.declared.schedule.Payment.{Payment}
 use Rattle.note_flows.proofs.flows.Dues.{Makes, spanned, makes}
 use Rattle.note_flows.proofs.flows.Flows.{judged-note, judged-table}
 use Rattle.note_flows.proofs.flows.next_flow_near.Goals as goal
-use Rattle.note_flows.proofs.flows.next_flow_near.Goals.{Start}
+use Rattle.note_flows.proofs.flows.next_flow_near.Goals.{Start, After-payment_for}
 
 -- the note was accepted
 accepted : (s : Start) → Accepted s.args.note
@@ -16,7 +16,7 @@ accepted s = judged-note c.args.note c.args.position c.args.table.now c.requires
 Made : Start → Payment → Type 0
 Made s = Makes s.args.note (accepted s) s.args.position s.args.table.now s.args.due
 
-made : (c : goal.After-payment_for) → Made c.before.before.before c.payment_for.result
+made : (c : After-payment_for) → Made c.before.before.before c.payment_for.result
 made c =
     let s : tie.Start = c.before.before.before in
     subst (Made s) (sym (found c)) (makes s.args.note (accepted s) s.args.position s.args.table.now s.args.due s.requires.1)

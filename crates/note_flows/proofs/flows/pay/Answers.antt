@@ -6,9 +6,10 @@ use Rattle.calendar.specs.serial.Answers.{date_outcome}
 use Rattle.day_adjust.specs.Adjustment.{adjusted}
 use Rattle.note_flows.proofs.flows.Flows.{adjusted-dated, pay_paid, pay_stop}
 use Rattle.note_flows.proofs.flows.pay.Goals as goal
+use Rattle.note_flows.proofs.flows.pay.Goals.{In-Date-2}
 
 -- where the amount is paid
-on : (c : goal.In-Date-2) → adjusted c.args.note.business_day_rule c.args.t c.args.table.now ≡ given c.in-Date.u
+on : (c : In-Date-2) → adjusted c.args.note.business_day_rule c.args.t c.args.table.now ≡ given c.in-Date.u
 on c = sym c.adjust_at.ensures ∙ ap date_outcome c.in-Date.is
 
 pub day_from-day-requires : goal.day_from-day-requires

@@ -6,9 +6,10 @@ use Rattle.calendar.specs.serial.Answers.{date_outcome}
 use Rattle.note_flows.specs.schedule.Schedule.{coupon_to}
 use Rattle.note_flows.specs.declared.schedule.Event.TheVariants.{Later}
 use Rattle.note_flows.proofs.schedule.event_after.Goals as goal
+use Rattle.note_flows.proofs.schedule.event_after.Goals.{Else-not-is_before}
 
 -- past its test the end is before maturity
-early : (c : goal.Else-not-is_before) → is_before c.args.end c.args.note.maturity ≡ true
+early : (c : Else-not-is_before) → is_before c.args.end c.args.note.maturity ≡ true
 early c = sym c.is_before.ensures ∙ c.if-not-is_before.false
 
 pub returns-then-not-is_before : goal.returns-then-not-is_before

@@ -13,13 +13,13 @@ use lib.Dec.{T}
 use Rattle.number_text.specs.write.Writing.{length_outcome, Takes}
 use Rattle.note_listing.proofs.lines.Lines.{line_takes, line_takes_none}
 use Rattle.note_listing.proofs.lines.line_length.Goals as goal
-use Rattle.note_listing.proofs.lines.line_length.Goals.{Start}
+use Rattle.note_listing.proofs.lines.line_length.Goals.{Start, In-Length}
 
-start : goal.In-Length → Start
+start : In-Length → Start
 start c = c.before.before.before.before.before
 
 -- what the flow takes
-takes : (c : goal.In-Length) → (Takes (line_shown (flow_on (start c).args.currency (start c).args.day (start c).args.amount)) (Length (c.in-Length.k + 1))) × (c.in-Length.k + 1 ≤ 331)
+takes : (c : In-Length) → (Takes (line_shown (flow_on (start c).args.currency (start c).args.day (start c).args.amount)) (Length (c.in-Length.k + 1))) × (c.in-Length.k + 1 ≤ 331)
 takes c =
     let s = start c in
     let f : CashFlow = flow_on s.args.currency s.args.day s.args.amount in

@@ -10,9 +10,10 @@ use Rattle.note_listing.specs.lines.Inner.{flows_shown, AtMost}
 use Rattle.cash_flow.specs.declared.flow.CashFlow.{CashFlow}
 use Rattle.note_listing.proofs.lines.Lines.{flows-next, flows-none, lines_none, tally_line, tally_refused}
 use Rattle.note_listing.proofs.lines.lines_length.Goals as goal
+use Rattle.note_listing.proofs.lines.lines_length.Goals.{In-Length}
 
 -- a line is not long
-short : (c : goal.In-Length) → c.in-Length.k ≤ 331
+short : (c : In-Length) → c.in-Length.k ≤ 331
 short c = subst (AtMost 331) c.in-Length.is c.line_length.ensures.1
 
 pub loop-i-init : goal.loop-i-init

@@ -9,12 +9,13 @@ use Rattle.note_listing.specs.lines.Lines.{lines_of}
 use Rattle.note_listing.specs.lines.Inner.{flows_shown, AtMost}
 use Rattle.note_listing.proofs.lines.Lines.{all_written, none_written, lines_short, refusal_is, refusal_written}
 use Rattle.note_listing.proofs.lines.list_lines.Goals as goal
+use Rattle.note_listing.proofs.lines.list_lines.Goals.{In-Length-2}
 
 -- how long the lines are
-length-is : (c : goal.In-Length-2) → given c.in-Length.k ≡ and_then (lines_of (flows_shown c.args.currency c.args.days.now c.args.amounts.now)) (λ t. given (length t))
+length-is : (c : In-Length-2) → given c.in-Length.k ≡ and_then (lines_of (flows_shown c.args.currency c.args.days.now c.args.amounts.now)) (λ t. given (length t))
 length-is c = ap length_outcome (sym c.in-Length.is) ∙ c.lines_length.ensures.0
 
-short : (c : goal.In-Length-2) → c.in-Length.k ≤ 662000
+short : (c : In-Length-2) → c.in-Length.k ≤ 662000
 short c = subst (AtMost 662000) c.in-Length.is c.lines_length.ensures.1
 
 pub returns-then-out-k : goal.returns-then-out-k

@@ -10,8 +10,9 @@ use Rattle.note_listing.specs.lines.Lines.{line_shown}
 use Rattle.note_listing.specs.lines.Inner.{flow_on, text_of}
 use Rattle.note_listing.proofs.lines.Lines.{Fitting, line_fitting}
 use Rattle.note_listing.proofs.lines.put_line.Goals as goal
+use Rattle.note_listing.proofs.lines.put_line.Goals.{After-flow_on}
 
-fits : (c : goal.After-flow_on) → Fitting c.flow_on.result (length c.args.out.now) c.args.at
+fits : (c : After-flow_on) → Fitting c.flow_on.result (length c.args.out.now) c.args.at
 fits c =
     let s : tie.Start = c.before.before in
     subst (λ (f : CashFlow). Fitting f (length s.args.out.now) s.args.at) (sym c.flow_on.ensures) (line_fitting (flow_on s.args.currency s.args.day s.args.amount) (length s.args.out.now) s.args.at s.requires)

@@ -7,9 +7,10 @@ use Rattle.day_fraction.proofs.Written.{lit1}
 use Rattle.note_listing.proofs.note.Notes.{Rolled, rolled_out, not_rolled_out}
 use Rattle.note_listing.specs.lines.Lines.{answer_text}
 use Rattle.note_listing.proofs.note.list_flows.Goals as goal
+use Rattle.note_listing.proofs.note.list_flows.Goals.{In-Flows-2}
 
 -- what the rollout gave
-rolled-at : (c : goal.In-Flows-2) → Rolled c.args.note c.args.table.now c.in-Flows.n c.rollout_flows.new.1.1.1.0 c.rollout_flows.new.1.1.1.1.0
+rolled-at : (c : In-Flows-2) → Rolled c.args.note c.args.table.now c.in-Flows.n c.rollout_flows.new.1.1.1.0 c.rollout_flows.new.1.1.1.1.0
 rolled-at c =
     rolled_out c.args.note c.args.table.now _ _ _ _ refl refl _ _ _ lit1 c.in-Flows.is c.rollout_flows.ensures
 

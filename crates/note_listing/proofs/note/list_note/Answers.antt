@@ -4,9 +4,10 @@ use lib.Seq.{length-take-le}
 use Rattle.note_listing.proofs.lines.Lines.{written_is, refusal_written}
 use Rattle.note_listing.proofs.note.Notes.{Read, was_read_so, was_refused_so}
 use Rattle.note_listing.proofs.note.list_note.Goals as goal
+use Rattle.note_listing.proofs.note.list_note.Goals.{In-Packed-2}
 
 -- what was read
-read_at : (c : goal.In-Packed-2) → Read c.args.s.now c.read_note.new.1.0 c.in-Packed.p
+read_at : (c : In-Packed-2) → Read c.args.s.now c.read_note.new.1.0 c.in-Packed.p
 read_at c = was_read_so c.args.s.now _ _ refl _ _ c.in-Packed.is c.read_note.ensures
 
 pub slice_bounds-table-end : goal.slice_bounds-table-end

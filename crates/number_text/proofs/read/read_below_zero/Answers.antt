@@ -6,9 +6,10 @@ use Rattle.number_text.specs.read.Reading.{number_outcome, decimal_number}
 use Rattle.number_text.proofs.read.Signs.{minus_back, below-number, below-refused}
 use Rattle.number_text.proofs.read.Decimals.{decimal_most}
 use Rattle.number_text.proofs.read.read_below_zero.Goals as goal
+use Rattle.number_text.proofs.read.read_below_zero.Goals.{In-Number-2}
 
 -- what was read
-read : (c : goal.In-Number-2) → given c.in-Number.v ≡ decimal_number 2147483648 c.args.refusal c.args.s.now
+read : (c : In-Number-2) → given c.in-Number.v ≡ decimal_number 2147483648 c.args.refusal c.args.s.now
 read c = ap number_outcome (sym c.in-Number.is) ∙ c.read_decimal.ensures
 
 pub negated-requires : goal.negated-requires

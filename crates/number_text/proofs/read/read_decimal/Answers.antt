@@ -7,9 +7,10 @@ use lib.ListN.{get_or, drop}
 use Rattle.number_text.specs.read.Reading.{decimal_number}
 use Rattle.number_text.proofs.read.Decimals.{remaining, remaining_whole, decimal_empty, remaining_bad, remaining_more, remaining_past, remaining_end, digit_yes, digit_low, digit_high}
 use Rattle.number_text.proofs.read.read_decimal.Goals as goal
+use Rattle.number_text.proofs.read.read_decimal.Goals.{Else-b-gt57}
 
 -- what is left after one digit more
-more : (c : goal.Else-b-gt57) → remaining c.args.most c.args.refusal (c.loop-k.v * 10 + (get_or c.args.s.now c.loop-k.k 0 - 48)) (drop (c.loop-k.k + 1) c.args.s.now) ≡ decimal_number c.args.most c.args.refusal c.args.s.now
+more : (c : Else-b-gt57) → remaining c.args.most c.args.refusal (c.loop-k.v * 10 + (get_or c.args.s.now c.loop-k.k 0 - 48)) (drop (c.loop-k.k + 1) c.args.s.now) ≡ decimal_number c.args.most c.args.refusal c.args.s.now
 more c = remaining_more _ _ _ c.loop-k.k c.args.s.now _ c.loop-k.invariant.2 (omega arith) (digit_yes _ c.if-b-lt48.false c.if-b-gt57.false)
 
 pub returns-then-s-eq0 : goal.returns-then-s-eq0

@@ -8,9 +8,10 @@ use Rattle.number_text.specs.read.Reading.{number_outcome, decimal_number}
 use Rattle.number_text.proofs.read.Signs.{from-number, from-refused}
 use Rattle.number_text.proofs.read.Decimals.{decimal_most}
 use Rattle.number_text.proofs.read.read_from_zero.Goals as goal
+use Rattle.number_text.proofs.read.read_from_zero.Goals.{In-Number-2}
 
 -- what was read
-read : (c : goal.In-Number-2) → given c.in-Number.v ≡ decimal_number 2147483647 c.args.refusal c.args.s.now
+read : (c : In-Number-2) → given c.in-Number.v ≡ decimal_number 2147483647 c.args.refusal c.args.s.now
 read c = ap number_outcome (sym c.in-Number.is) ∙ c.read_decimal.ensures
 
 pub overflow_cast-result : goal.overflow_cast-result

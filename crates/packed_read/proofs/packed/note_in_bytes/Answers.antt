@@ -8,8 +8,9 @@ use Rattle.packed_read.specs.table.Tables.{days_from, is_whole}
 use Rattle.packed_read.proofs.table.Tables.{whole_long}
 use Rattle.packed_read.proofs.packed.Reading.{bytes_short, bytes_whole}
 use Rattle.packed_read.proofs.packed.note_in_bytes.Goals as goal
+use Rattle.packed_read.proofs.packed.note_in_bytes.Goals.{Else-not-is_whole}
 
-whole : (c : goal.Else-not-is_whole) → is_whole c.args.s.now ≡ true
+whole : (c : Else-not-is_whole) → is_whole c.args.s.now ≡ true
 whole c = sym c.is_whole.ensures ∙ c.if-not-is_whole.false
 
 pub returns-then-not-is_whole : goal.returns-then-not-is_whole

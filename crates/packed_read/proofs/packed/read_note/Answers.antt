@@ -9,11 +9,12 @@ use Rattle.packed_read.proofs.table.Tables.{whole_long}
 use Rattle.packed_read.specs.packed.Notes.{note_in_bytes}
 use Rattle.packed_read.proofs.packed.Reading.{bytes-given, few_days, reads_refused, reads_short, reads_all}
 use Rattle.packed_read.proofs.packed.read_note.Goals as goal
+use Rattle.packed_read.proofs.packed.read_note.Goals.{In-Note}
 
-bytes_of : goal.In-Note → List ℕ
+bytes_of : In-Note → List ℕ
 bytes_of c = c.before.before.before.before.before.before.before.before.args.s.now
 
-note-is : (c : goal.In-Note) → note_in_bytes (bytes_of c) ≡ given c.in-Note.note
+note-is : (c : In-Note) → note_in_bytes (bytes_of c) ≡ given c.in-Note.note
 note-is c = sym c.note_in_bytes.ensures.0 ∙ ap note_outcome c.in-Note.is
 
 pub table_count-n-requires : goal.table_count-n-requires

@@ -11,14 +11,15 @@ use Rattle.outcome.proofs.Numbers.{at_most, not_at_most}
 use Rattle.bond.specs.note.Notes.{note_outcome}
 use Rattle.packed_write.proofs.packed.Answers.{period_refused, note-refused, note_packable, note_written}
 use Rattle.packed_write.proofs.packed.write_note.Goals as goal
+use Rattle.packed_write.proofs.packed.write_note.Goals.{After-struct_told-1, Else-period-gt-MOST_NUMBER}
 
 -- the number, as it is read back
-kept : (c : goal.After-struct_told-1) → to_z w32 (of_z w32 c.args.note.period.num) ≡ c.args.note.period.num
+kept : (c : After-struct_told-1) → to_z w32 (of_z w32 c.args.note.period.num) ≡ c.args.note.period.num
 kept c =
     let f : SFits w32 c.args.note.period.num = record { sfits = c.struct_told-1.given.0.1 } in
     to_z-of_z f
 
-within : (c : goal.Else-period-gt-MOST_NUMBER) → le_z c.args.note.period.num (pos 4095) ≡ true
+within : (c : Else-period-gt-MOST_NUMBER) → le_z c.args.note.period.num (pos 4095) ≡ true
 within c = at_most (pos 4095) c.args.note.period.num (subst (λ (z : ℤ). lt_z (pos 4095) z ≡ false) (kept c.before) c.if-period-gt-MOST_NUMBER.false)
 
 pub returns-then-period-gt-MOST_NUMBER : goal.returns-then-period-gt-MOST_NUMBER

@@ -7,9 +7,10 @@ use lib.Dec.{leb}
 use borrow.Author.Tests.{le-leb, lt-leb}
 use Rattle.rates.specs.plain.Counted.{year_days, counted_from}
 use Rattle.rates.proofs.plain.counted_from.Goals as goal
+use Rattle.rates.proofs.plain.counted_from.Goals.{Else-year_days-lt1}
 
 -- the rule counts days
-counts : (c : goal.Else-year_days-lt1) → leb 1 (year_days c.args.rate.day_count_conv) ≡ true
+counts : (c : Else-year_days-lt1) → leb 1 (year_days c.args.rate.day_count_conv) ≡ true
 counts c = le-leb 1 (year_days c.args.rate.day_count_conv) (omega (arith, c.year_days.ensures, c.if-year_days-lt1.false))
 
 pub returns-then-year_days-lt1 : goal.returns-then-year_days-lt1

@@ -6,9 +6,10 @@ use Rattle.cash_flow.specs.flow.Flows.{flows_outcome}
 use Rattle.note_flows.specs.flows.NoteFlows.{note_flows}
 use Rattle.rollout.proofs.buffer.Kept.{within_short, within-fits, within_stopped, all_kept}
 use Rattle.rollout.proofs.buffer.collect_within.Goals as goal
+use Rattle.rollout.proofs.buffer.collect_within.Goals.{In-Flows-2}
 
 -- what was counted
-found : (c : goal.In-Flows-2) → given c.in-Flows.n ≡ counted (note_flows c.args.note c.args.position c.args.table.now)
+found : (c : In-Flows-2) → given c.in-Flows.n ≡ counted (note_flows c.args.note c.args.position c.args.table.now)
 found c = sym (ap flows_outcome c.in-Flows.is) ∙ c.collect.ensures.0
 
 pub returns-then-places-n : goal.returns-then-places-n

@@ -5,9 +5,10 @@ use Rattle.note_flows.specs.flows.Turns.{Turned}
 use Rattle.note_flows.proofs.flows.Dues.{step_turns}
 use Rattle.rollout.proofs.buffer.Kept.{kept-dated, came_kept, still_dated, must_pay, came_due}
 use Rattle.rollout.proofs.buffer.flow_at.Goals as goal
+use Rattle.rollout.proofs.buffer.flow_at.Goals.{After-next_flow}
 
 -- the step that was taken turns
-turned-at : (c : goal.After-next_flow) → Turned c.args.note c.args.position c.args.table.now c.args.before.next c.next_flow.result
+turned-at : (c : After-next_flow) → Turned c.args.note c.args.position c.args.table.now c.args.before.next c.next_flow.result
 turned-at c =
     let s : tie.Start = c.before.before.before in
     step_turns s.args.note s.args.position s.args.table.now s.requires.0.judged s.args.before.next (still_dated s.args.note s.args.position s.args.table.now s.args.days.now s.args.amounts.now s.args.n s.args.k s.args.before.next s.requires.0 s.requires.1 c.if-n-le-KEPT.false) _ c.next_flow.ensures

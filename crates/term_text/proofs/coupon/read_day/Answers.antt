@@ -7,9 +7,10 @@ use Rattle.number_text.specs.read.Reading.{number_outcome, unsigned_number}
 use Rattle.term_text.specs.coupon.CouponTexts.{up_to_dot, after_dot, month_part, day_part}
 use Rattle.outcome.proofs.Lists.{part_from}
 use Rattle.term_text.proofs.coupon.read_day.Goals as goal
+use Rattle.term_text.proofs.coupon.read_day.Goals.{After-read_u32}
 
 -- what was read stands before the dot
-read : (c : goal.After-read_u32) → number_outcome c.read_u32.result ≡ unsigned_number 6 (up_to_dot c.args.s.now)
+read : (c : After-read_u32) → number_outcome c.read_u32.result ≡ unsigned_number 6 (up_to_dot c.args.s.now)
 read c = c.read_u32.ensures ∙ ap (unsigned_number 6) c.dot_at-dot.ensures.first
 
 pub returns-then-s-dot : goal.returns-then-s-dot

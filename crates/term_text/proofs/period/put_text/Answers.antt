@@ -12,9 +12,10 @@ use Rattle.term_text.specs.period.PeriodTexts.{period_text}
 use Rattle.time_period.proofs.steps.Signs.{told}
 use Rattle.term_text.proofs.period.Texts.{text_length}
 use Rattle.term_text.proofs.period.put_text.Goals as goal
+use Rattle.term_text.proofs.period.put_text.Goals.{After-put_signed-at}
 
 -- the number is written
-wrote : (c : goal.After-put_signed-at) → Wrote c.args.out.now c.put_signed-at.new.1.0 0 (signed_text c.args.p.num) c.put_signed-at.result
+wrote : (c : After-put_signed-at) → Wrote c.args.out.now c.put_signed-at.new.1.0 0 (signed_text c.args.p.num) c.put_signed-at.result
 wrote c = rw (to_z-of_z (told c.args.p.num c.struct_told-1.given.0.1)) at c.put_signed-at.ensures
 
 pub put_signed-at-requires : goal.put_signed-at-requires

@@ -8,9 +8,10 @@ use Rattle.term_text.specs.period.PeriodTexts.{period_text}
 use Rattle.time_period.proofs.steps.Signs.{told}
 use Rattle.term_text.proofs.period.Texts.{text_length}
 use Rattle.term_text.proofs.period.write_period.Goals as goal
+use Rattle.term_text.proofs.period.write_period.Goals.{After-signed_length}
 
 -- how many bytes the number takes
-takes : (c : goal.After-signed_length) → TakesSigned c.args.p.num c.signed_length.result
+takes : (c : After-signed_length) → TakesSigned c.args.p.num c.signed_length.result
 takes c = rw (to_z-of_z (told c.args.p.num c.struct_told-1.given.0.1)) at c.signed_length.ensures
 
 pub overflow_add-signed_length : goal.overflow_add-signed_length

@@ -6,13 +6,14 @@ use Rattle.calendar.specs.dates.Dates.{is_date}
 use Rattle.time_period.specs.steps.Steps.{absent}
 use Rattle.time_period.proofs.added.Judging.{no_table, add_undated, add-dated}
 use Rattle.time_period.proofs.added.add_to.Goals as goal
+use Rattle.time_period.proofs.added.add_to.Goals.{Else-not-is_date, Then-not-is_date}
 
 -- the date is none of the calendar's
-undated : (c : goal.Then-not-is_date) → is_date c.args.t ≡ false
+undated : (c : Then-not-is_date) → is_date c.args.t ≡ false
 undated c = sym c.is_date.ensures ∙ c.if-not-is_date.true
 
 -- or it is one
-dated : (c : goal.Else-not-is_date) → is_date c.args.t ≡ true
+dated : (c : Else-not-is_date) → is_date c.args.t ≡ true
 dated c = sym c.is_date.ensures ∙ c.if-not-is_date.false
 
 pub returns-then-not-is_date : goal.returns-then-not-is_date

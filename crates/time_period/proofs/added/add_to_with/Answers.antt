@@ -8,20 +8,21 @@ use Rattle.business_days.proofs.table.Table.{table_ascends}
 use Rattle.time_period.specs.steps.Steps.{table}
 use Rattle.time_period.proofs.added.Judging.{bad_table, table_taken, add_undated, add-dated}
 use Rattle.time_period.proofs.added.add_to_with.Goals as goal
+use Rattle.time_period.proofs.added.add_to_with.Goals.{Else-not-is_date, Else-not-is_table, Then-not-is_date, Then-not-is_table}
 
 -- the date is none of the calendar's
-undated : (c : goal.Then-not-is_date) → is_date c.args.t ≡ false
+undated : (c : Then-not-is_date) → is_date c.args.t ≡ false
 undated c = sym c.is_date.ensures ∙ c.if-not-is_date.true
 
 -- or it is one
-dated : (c : goal.Else-not-is_date) → is_date c.args.t ≡ true
+dated : (c : Else-not-is_date) → is_date c.args.t ≡ true
 dated c = sym c.is_date.ensures ∙ c.if-not-is_date.false
 
 -- and so with the table
-bad : (c : goal.Then-not-is_table) → is_table c.args.holidays.now ≡ false
+bad : (c : Then-not-is_table) → is_table c.args.holidays.now ≡ false
 bad c = sym c.is_table.ensures ∙ c.if-not-is_table.true
 
-taken : (c : goal.Else-not-is_table) → is_table c.args.holidays.now ≡ true
+taken : (c : Else-not-is_table) → is_table c.args.holidays.now ≡ true
 taken c = sym c.is_table.ensures ∙ c.if-not-is_table.false
 
 pub returns-then-not-is_date : goal.returns-then-not-is_date

@@ -8,20 +8,21 @@ use Rattle.time_period.specs.steps.Periods.{period_outcome}
 use Rattle.time_period.specs.steps.Steps.{absent, inverse_of}
 use Rattle.time_period.proofs.added.Judging.{no_table, sub_undated, sub-refused, sub-dated}
 use Rattle.time_period.proofs.added.sub_from.Goals as goal
+use Rattle.time_period.proofs.added.sub_from.Goals.{Else-not-is_date, In-Period-2, In-Refused-2, Then-not-is_date}
 
 -- the date is none of the calendar's
-undated : (c : goal.Then-not-is_date) → is_date c.args.t ≡ false
+undated : (c : Then-not-is_date) → is_date c.args.t ≡ false
 undated c = sym c.is_date.ensures ∙ c.if-not-is_date.true
 
 -- or it is one
-dated : (c : goal.Else-not-is_date) → is_date c.args.t ≡ true
+dated : (c : Else-not-is_date) → is_date c.args.t ≡ true
 dated c = sym c.is_date.ensures ∙ c.if-not-is_date.false
 
 -- the number's negative, where it has one
-negated : (c : goal.In-Period-2) → given c.in-Period.q ≡ inverse_of c.args.p
+negated : (c : In-Period-2) → given c.in-Period.q ≡ inverse_of c.args.p
 negated c = ap period_outcome (sym c.in-Period.is) ∙ c.inverse.ensures
 
-least : (c : goal.In-Refused-2) → refused c.in-Refused.n ≡ inverse_of c.args.p
+least : (c : In-Refused-2) → refused c.in-Refused.n ≡ inverse_of c.args.p
 least c = ap period_outcome (sym c.in-Refused.is) ∙ c.inverse.ensures
 
 pub returns-then-not-is_date : goal.returns-then-not-is_date

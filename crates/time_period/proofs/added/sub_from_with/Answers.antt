@@ -10,27 +10,28 @@ use Rattle.time_period.specs.steps.Periods.{period_outcome}
 use Rattle.time_period.specs.steps.Steps.{table, inverse_of}
 use Rattle.time_period.proofs.added.Judging.{bad_table, table_taken, sub_undated, sub-refused, sub-dated}
 use Rattle.time_period.proofs.added.sub_from_with.Goals as goal
+use Rattle.time_period.proofs.added.sub_from_with.Goals.{Else-not-is_date, Else-not-is_table, In-Period-2, In-Refused-2, Then-not-is_date, Then-not-is_table}
 
 -- the date is none of the calendar's
-undated : (c : goal.Then-not-is_date) → is_date c.args.t ≡ false
+undated : (c : Then-not-is_date) → is_date c.args.t ≡ false
 undated c = sym c.is_date.ensures ∙ c.if-not-is_date.true
 
 -- or it is one
-dated : (c : goal.Else-not-is_date) → is_date c.args.t ≡ true
+dated : (c : Else-not-is_date) → is_date c.args.t ≡ true
 dated c = sym c.is_date.ensures ∙ c.if-not-is_date.false
 
 -- the number's negative, where it has one
-negated : (c : goal.In-Period-2) → given c.in-Period.q ≡ inverse_of c.args.p
+negated : (c : In-Period-2) → given c.in-Period.q ≡ inverse_of c.args.p
 negated c = ap period_outcome (sym c.in-Period.is) ∙ c.inverse.ensures
 
-least : (c : goal.In-Refused-2) → refused c.in-Refused.n ≡ inverse_of c.args.p
+least : (c : In-Refused-2) → refused c.in-Refused.n ≡ inverse_of c.args.p
 least c = ap period_outcome (sym c.in-Refused.is) ∙ c.inverse.ensures
 
 -- the table
-bad : (c : goal.Then-not-is_table) → is_table c.args.holidays.now ≡ false
+bad : (c : Then-not-is_table) → is_table c.args.holidays.now ≡ false
 bad c = sym c.is_table.ensures ∙ c.if-not-is_table.true
 
-taken : (c : goal.Else-not-is_table) → is_table c.args.holidays.now ≡ true
+taken : (c : Else-not-is_table) → is_table c.args.holidays.now ≡ true
 taken c = sym c.is_table.ensures ∙ c.if-not-is_table.false
 
 pub returns-then-not-is_date : goal.returns-then-not-is_date

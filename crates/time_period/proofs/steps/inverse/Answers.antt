@@ -10,12 +10,13 @@ use Rattle.time_period.specs.steps.Steps.{is_least, inverse_of}
 use Rattle.time_period.specs.declared.steps.TimePeriod.{TimePeriod}
 use Rattle.time_period.proofs.steps.Signs.{told, least, not_least, minus_fits, minus_read}
 use Rattle.time_period.proofs.steps.inverse.Goals as goal
+use Rattle.time_period.proofs.steps.inverse.Goals.{After-struct_told-1, Else-n}
 
-num-fits : (c : goal.After-struct_told-1) → SFits w32 c.args.p.num
+num-fits : (c : After-struct_told-1) → SFits w32 c.args.p.num
 num-fits c = told c.args.p.num c.struct_told-1.given.0.1
 
 -- past the test it is not the least
-kept : (c : goal.Else-n) → is_least c.args.p.num ≡ false
+kept : (c : Else-n) → is_least c.args.p.num ≡ false
 kept c = not_least c.args.p.num (num-fits c.before) c.if-n.false
 
 pub returns-then-n : goal.returns-then-n

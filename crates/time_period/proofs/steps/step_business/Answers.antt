@@ -12,16 +12,17 @@ use Rattle.business_days.specs.table.Search.{JudgedDay}
 use Rattle.time_period.specs.steps.Steps.{table, business_day, business_step}
 use Rattle.time_period.proofs.steps.Signs.{business_back, business_on}
 use Rattle.time_period.proofs.steps.step_business.Goals as goal
+use Rattle.time_period.proofs.steps.step_business.Goals.{After-day_of_date-day}
 
 -- the day and the holidays are judged
-judged : (c : goal.After-day_of_date-day) → JudgedDay c.day_of_date-day.result c.args.holidays.now
+judged : (c : After-day_of_date-day) → JudgedDay c.day_of_date-day.result c.args.holidays.now
 judged c =
     let s : tie.Start = c.before.before in
     let d = date-yes s.args.t s.requires.0 in
     rw c.day_of_date-day.ensures (record { from = number-from s.args.t d; to = number-to s.args.t d; sorted = s.requires.1 })
 
 -- what was found is what the number leads to
-found : (c : goal.After-day_of_date-day) (o : Outcome Day) → o ≡ business_day c.args.holidays.now c.args.n c.day_of_date-day.result → and_then o date_of ≡ business_step c.args.n (table c.args.holidays.now) c.args.t
+found : (c : After-day_of_date-day) (o : Outcome Day) → o ≡ business_day c.args.holidays.now c.args.n c.day_of_date-day.result → and_then o date_of ≡ business_step c.args.n (table c.args.holidays.now) c.args.t
 unfolding business_step
 found c o e =
     let s : tie.Start = c.before.before in

@@ -10,6 +10,7 @@ use mir.Facts.{to_z-of_z}
 use denote.Enum.Declared.{tag_of}
 use Rattle.outcome.specs.Outcome.{given, refused}
 use types.Run.{OneOf}
+use borrow.Enum.Refused.{opened}
 use Rattle.time_period.specs.steps.Periods.{months_frequency, years_frequency, unit_frequency, frequency_of}
 use Rattle.time_period.specs.declared.steps.TimePeriodUnit.TheVariants.{Daily, BusinessDaily, Weekly, Monthly, Annual}
 use Rattle.time_period.specs.declared.steps.TimePeriodUnit.{TimePeriodUnit}
@@ -27,7 +28,7 @@ none Annual n k = absurd (⊎_elim (λ e. omega arith) (λ m. ⊎_elim (λ e. om
 
 pub returns-in-Daily : goal.returns-in-Daily
 unfolding frequency_of
-returns-in-Daily c = none c.args.p.unit _ c.in-Daily.in-Daily-own.keys1
+returns-in-Daily c = none c.args.p.unit _ (opened c.in-Daily.in-Daily-own.keys1)
 
 pub returns-in-Monthly : goal.returns-in-Monthly
 unfolding frequency_of

@@ -9,6 +9,7 @@ use mir.Facts.{to_z-of_z}
 use denote.Enum.Declared.{tag_of}
 use Rattle.calendar.specs.declared.dates.Date.{Date}
 use types.Run.{OneOf}
+use borrow.Enum.Refused.{opened}
 use Rattle.time_period.specs.steps.Steps.{absent, table, unit_step, business_step}
 use Rattle.time_period.specs.declared.steps.TimePeriodUnit.TheVariants.{Daily, BusinessDaily, Weekly, Monthly, Annual}
 use Rattle.time_period.specs.declared.steps.TimePeriodUnit.{TimePeriodUnit}
@@ -32,4 +33,4 @@ returns-in-BusinessDaily c =
     ∙ ap (λ (u : TimePeriodUnit). unit_step u c.args.p.num h c.args.t) (sym c.in-BusinessDaily.is)
 
 pub returns : goal.returns
-returns c = c.step.ensures ∙ other c.args.p.unit _ _ _ c.in_default.in_default-own.keys2
+returns c = c.step.ensures ∙ other c.args.p.unit _ _ _ (opened c.in_default.in_default-own.keys2)

@@ -26,11 +26,11 @@ returns-in-Number c =
     let start : tie.Start = c.before.before.before.before.before.before.before.before.before.before in
     let dot : tie.After-dot-at = c.before.before.before.before.before.before.before.before in
     let there = dot.dot_at.ensures.there c.if-s-dot.false in
-    rw there.0 (c.read_month.ensures ∙ ap (month_part c.in-Number.day) (part_from start.args.s.now _ ∙ there.1) ∙ ap (λ (o : Outcome ℕ). and_then o (λ d. month_part d (after_dot start.args.s.now))) (ap number_outcome (sym c.in-Number.is) ∙ read c.before.before.before.before.before))
+    rw there.0 (c.read_month.ensures ∙ ap (month_part c.in-Number.day) (part_from start.args.s.now _ ∙ there.1) ∙ ap (λ (o : Outcome ℕ). and_then o (λ d. month_part d (after_dot start.args.s.now))) (ap number_outcome (sym c.in-Number.is) ∙ read (goal.at.returns-in-Number c).After-read_u32))
 
 pub returns-in-Refused : goal.returns-in-Refused
 unfolding day_part
 returns-in-Refused c =
     let start : tie.Start = c.before.before.before.before.before.before.before.before in
     let dot : tie.After-dot-at = c.before.before.before.before.before.before in
-    rw (dot.dot_at.ensures.there c.if-s-dot.false).0 (ap (λ (o : Outcome ℕ). and_then o (λ d. month_part d (after_dot start.args.s.now))) (ap number_outcome (sym c.in-Refused.is) ∙ read c.before.before.before))
+    rw (dot.dot_at.ensures.there c.if-s-dot.false).0 (ap (λ (o : Outcome ℕ). and_then o (λ d. month_part d (after_dot start.args.s.now))) (ap number_outcome (sym c.in-Refused.is) ∙ read (goal.at.returns-in-Refused c).After-read_u32))

@@ -21,10 +21,10 @@ pub returns-in-Number : goal.returns-in-Number
 unfolding month_part
 returns-in-Number c =
     let start : tie.Start = c.before.before.before.before.before.before.before.before in
-    c.new_coupon_date.ensures ∙ ap (λ (o : Outcome ℕ). and_then o (coupon_date_of start.args.day)) (ap number_outcome (sym c.in-Number.is) ∙ read c.before.before.before.before)
+    c.new_coupon_date.ensures ∙ ap (λ (o : Outcome ℕ). and_then o (coupon_date_of start.args.day)) (ap number_outcome (sym c.in-Number.is) ∙ read (goal.at.returns-in-Number c).After-read_u32)
 
 pub returns-in-Refused : goal.returns-in-Refused
 unfolding month_part
 returns-in-Refused c =
     let start : tie.Start = c.before.before.before.before.before.before.before in
-    ap (λ (o : Outcome ℕ). and_then o (coupon_date_of start.args.day)) (ap number_outcome (sym c.in-Refused.is) ∙ read c.before.before.before)
+    ap (λ (o : Outcome ℕ). and_then o (coupon_date_of start.args.day)) (ap number_outcome (sym c.in-Refused.is) ∙ read (goal.at.returns-in-Refused c).After-read_u32)

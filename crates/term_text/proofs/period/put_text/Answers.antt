@@ -26,18 +26,18 @@ put_signed-at-requires c =
 pub bounds-out-at : goal.bounds-out-at
 bounds-out-at c =
     let s : tie.Start = c.before.before.before.before.before.before.before in
-    omega (arith, s.requires, text_length s.args.p, (wrote c.before.before.before).1, c.put_signed-at.auto.1.0)
+    omega (arith, s.requires, text_length s.args.p, (wrote (goal.at.bounds-out-at c).After-put_signed-at).1, c.put_signed-at.auto.1.0)
 
 pub overflow_add-result : goal.overflow_add-result
 overflow_add-result c =
     let s : tie.Start = c.before.before.before.before.before.before.before in
-    omega (arith, s.requires, text_length s.args.p, (wrote c.before.before.before).1)
+    omega (arith, s.requires, text_length s.args.p, (wrote (goal.at.overflow_add-result c).After-put_signed-at).1)
 
 pub returns : goal.returns
 unfolding period_text
 returns c =
     let s : tie.Start = c.before.before.before.before.before.before.before in
-    let room : c.put_signed-at.result < length c.put_signed-at.new.1.0 = omega (arith, s.requires, text_length s.args.p, (wrote c.before.before.before).1, c.put_signed-at.auto.1.0) in
+    let room : c.put_signed-at.result < length c.put_signed-at.new.1.0 = omega (arith, s.requires, text_length s.args.p, (wrote (goal.at.returns c).After-put_signed-at).1, c.put_signed-at.auto.1.0) in
     let letter = wrote_one _ c.put_signed-at.result c.letter.result room in
-    wrote_is _ _ _ _ _ _ (wrote_then _ _ _ _ _ _ _ _ (wrote c.before.before.before) letter (omega (arith, s.requires, text_length s.args.p)))
+    wrote_is _ _ _ _ _ _ (wrote_then _ _ _ _ _ _ _ _ (wrote (goal.at.returns c).After-put_signed-at) letter (omega (arith, s.requires, text_length s.args.p)))
     (ap (λ (v : ℕ). signed_text s.args.p.num ++ (v ∷ [])) c.letter.ensures)

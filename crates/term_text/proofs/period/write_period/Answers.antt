@@ -18,19 +18,19 @@ pub overflow_add-signed_length : goal.overflow_add-signed_length
 overflow_add-signed_length c =
     let s : tie.Start = c.before.before.before in
     let f = told s.args.p.num c.struct_told-1.given.0.1 in
-    omega (arith, takes c, signed-within s.args.p.num f)
+    omega (arith, takes (goal.at.overflow_add-signed_length c).After-signed_length, signed-within s.args.p.num f)
 
 pub returns-then-out-signed_length : goal.returns-then-out-signed_length
 returns-then-out-signed_length c =
     let s : tie.Start = c.before.before.before.before in
-    written_refused s.args.out.now (period_text s.args.p) (omega (arith, takes c.before, text_length s.args.p, c.if-out-signed_length.true))
+    written_refused s.args.out.now (period_text s.args.p) (omega (arith, takes (goal.at.returns-then-out-signed_length c).After-signed_length, text_length s.args.p, c.if-out-signed_length.true))
 
 pub put_text-requires : goal.put_text-requires
 put_text-requires c =
     let s : tie.Start = c.before.before.before.before.before in
-    omega (arith, takes c.before.before, text_length s.args.p, c.if-out-signed_length.false)
+    omega (arith, takes (goal.at.put_text-requires c).After-signed_length, text_length s.args.p, c.if-out-signed_length.false)
 
 pub returns : goal.returns
 returns c =
     let s : tie.Start = c.before.before.before.before.before.before.before.before in
-    written_fits s.args.out.now _ (period_text s.args.p) _ c.put_text.ensures (omega (arith, takes c.before.before.before.before.before, text_length s.args.p, c.if-out-signed_length.false))
+    written_fits s.args.out.now _ (period_text s.args.p) _ c.put_text.ensures (omega (arith, takes (goal.at.returns c).After-signed_length, text_length s.args.p, c.if-out-signed_length.false))

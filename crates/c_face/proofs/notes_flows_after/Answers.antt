@@ -4,6 +4,4 @@ use Rattle.c_face.proofs.Rooms.{listed_handed}
 use Rattle.c_face.proofs.notes_flows_after.Goals as goal
 
 pub returns : goal.returns
-returns c =
-    let s : tie.Start = c.before.before.before.before.before.before.before.before.before.before.before.before.before.before.before.before.before.before in
-    listed_handed _ _ _ _ c.hand_flows.ensures s.args.out-days.now s.args.out-currencies.now _ _ s.args.out-amounts.now _ _ c.flows_after_plain-answer.ensures.answer c.flows_after_plain-answer.ensures.contents
+returns c = listed_handed _ _ _ _ c.hand_flows.ensures c.args.out-days.now c.args.out-currencies.now _ _ c.args.out-amounts.now _ _ c.flows_after_plain-answer.ensures.answer c.flows_after_plain-answer.ensures.contents

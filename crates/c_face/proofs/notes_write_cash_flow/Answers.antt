@@ -7,6 +7,5 @@ use Rattle.c_face.proofs.notes_write_cash_flow.Goals as goal
 
 pub returns : goal.returns
 returns c =
-    let s : tie.Start = c.before.before.before.before.before.before.before in
-    let f = flow (date s.args.year s.args.month s.args.day) (currency s.args.c1 s.args.c2 s.args.c3) s.args.amount in
-    shown_handed s.args.out.now _ _ _ _ _ c.hand_length.ensures (flow_shown f) c.write_cash_flow.ensures.0 c.write_cash_flow.ensures.1
+    let f = flow (date c.args.year c.args.month c.args.day) (currency c.args.c1 c.args.c2 c.args.c3) c.args.amount in
+    shown_handed c.args.out.now _ _ _ _ _ c.hand_length.ensures (flow_shown f) c.write_cash_flow.ensures.0 c.write_cash_flow.ensures.1

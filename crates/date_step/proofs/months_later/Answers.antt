@@ -44,12 +44,12 @@ moved-requires c =
     (omega (arith, h.year_to, h.month_to), omega arith, wide_short _ c.ranges.n)
 
 pub in_month-requires : goal.in_month-requires
-in_month-requires c = (landed 119987 _ c.in-To.i (sym (moved c.before.before.before) ∙ ap moved_outcome c.in-To.is)).1
+in_month-requires c = (landed 119987 _ c.in-To.i (sym (moved c.before) ∙ ap moved_outcome c.in-To.is)).1
 
 pub returns-in-To : goal.returns-in-To
 unfolding months_later
-returns-in-To c = ap {B = Outcome Date} given c.in_month.ensures ∙ ap (λ (o : Outcome ℕ). and_then o (λ i. given (month_date i c.args.t.day))) (ap moved_outcome (sym c.in-To.is) ∙ moved c.before.before.before.before)
+returns-in-To c = ap {B = Outcome Date} given c.in_month.ensures ∙ ap (λ (o : Outcome ℕ). and_then o (λ i. given (month_date i c.args.t.day))) (ap moved_outcome (sym c.in-To.is) ∙ moved c.before.before)
 
 pub returns-in-Refused : goal.returns-in-Refused
 unfolding months_later
-returns-in-Refused c = ap (λ (o : Outcome ℕ). and_then o (λ i. given (month_date i c.args.t.day))) (ap moved_outcome (sym c.in-Refused.is) ∙ moved c.before.before.before)
+returns-in-Refused c = ap (λ (o : Outcome ℕ). and_then o (λ i. given (month_date i c.args.t.day))) (ap moved_outcome (sym c.in-Refused.is) ∙ moved c.before)

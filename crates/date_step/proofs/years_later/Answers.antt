@@ -31,8 +31,8 @@ moved-requires c =
 
 pub returns-in-To : goal.returns-in-To
 unfolding years_later
-returns-in-To c = c.existing.ensures ∙ ap (λ (o : Outcome ℕ). and_then o (on c.args.t)) (ap moved_outcome (sym c.in-To.is) ∙ moved c.before.before.before.before)
+returns-in-To c = c.existing.ensures ∙ ap (λ (o : Outcome ℕ). and_then o (on c.args.t)) (ap moved_outcome (sym c.in-To.is) ∙ moved c.before.before)
 
 pub returns-in-Refused : goal.returns-in-Refused
 unfolding years_later
-returns-in-Refused c = ap (λ (o : Outcome ℕ). and_then o (on c.args.t)) (ap moved_outcome (sym c.in-Refused.is) ∙ moved c.before.before.before)
+returns-in-Refused c = ap (λ (o : Outcome ℕ). and_then o (on c.args.t)) (ap moved_outcome (sym c.in-Refused.is) ∙ moved c.before)

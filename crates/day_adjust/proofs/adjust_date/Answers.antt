@@ -9,44 +9,48 @@ use Rattle.day_adjust.specs.Adjustment.{adjust_date}
 use Rattle.business_days.proofs.table.Table.{table_ascends}
 use Rattle.day_adjust.proofs.Adjusting.{judged-at, open_stays, shut_moves}
 use Rattle.day_adjust.proofs.adjust_date.Goals as goal
-use Rattle.day_adjust.proofs.adjust_date.Goals.{Else-not-is_date, In-At}
-
--- past its test the date is one, and where the day has a place the table is one
-dated : (c : Else-not-is_date) → is_date c.args.t ≡ true
-dated c = sym c.is_date.ensures ∙ c.if-not-is_date.false
-
-placed : (c : In-At) → (is_table c.args.table.now ≡ true) × IsLowerBound c.args.table.now c.day_of_date-n.result c.in-At.i
-placed c = subst (Placed _ _) c.in-At.is c.IsPlace-in.ensures
 
 pub returns-then-not-is_date : goal.returns-then-not-is_date
 unfolding adjust_date
 returns-then-not-is_date c = rw (sym c.is_date.ensures ∙ c.if-not-is_date.true)
 
 pub day_of_date-n-requires : goal.day_of_date-n-requires
-day_of_date-n-requires c = dated c
+day_of_date-n-requires c =
+    let dated : is_date c.args.t ≡ true = sym c.is_date.ensures ∙ c.if-not-is_date.false in
+    dated
 
 pub business_at-requires : goal.business_at-requires
 business_at-requires c =
-    let p = placed c in
-    (judged-at c.args.t c.day_of_date-n.result c.args.table.now c.day_of_date-n.ensures (dated c.before.before.before.before.before) (table_ascends _ p.0), p.1)
+    let dated : is_date c.args.t ≡ true = sym c.is_date.ensures ∙ c.if-not-is_date.false in
+    let placed : (is_table c.args.table.now ≡ true) × IsLowerBound c.args.table.now c.day_of_date-n.result c.in-At.i = subst (Placed _ _) c.in-At.is c.place_in.ensures in
+    let p = placed in
+    (judged-at c.args.t c.day_of_date-n.result c.args.table.now c.day_of_date-n.ensures dated (table_ascends _ p.0), p.1)
 
 pub returns-then-business_at : goal.returns-then-business_at
 unfolding adjust_date
-returns-then-business_at c = rw (dated c.before.before.before.before.before.before.before, (placed c.before.before).0) (open_stays c.args.t c.day_of_date-n.result c.args.table.now c.day_of_date-n.ensures c.args.rule (sym c.business_at.ensures ∙ c.if-business_at.true))
+returns-then-business_at c =
+    let dated : is_date c.args.t ≡ true = sym c.is_date.ensures ∙ c.if-not-is_date.false in
+    let placed : (is_table c.args.table.now ≡ true) × IsLowerBound c.args.table.now c.day_of_date-n.result c.in-At.i = subst (Placed _ _) c.in-At.is c.place_in.ensures in
+    rw (dated, placed.0) (open_stays c.args.t c.day_of_date-n.result c.args.table.now c.day_of_date-n.ensures c.args.rule (sym c.business_at.ensures ∙ c.if-business_at.true))
 
 pub moved_date-requires : goal.moved_date-requires
 moved_date-requires c =
-    let p = placed c.before.before in
-    (dated c.before.before.before.before.before.before.before, c.day_of_date-n.ensures, table_ascends _ p.0, p.1)
+    let dated : is_date c.args.t ≡ true = sym c.is_date.ensures ∙ c.if-not-is_date.false in
+    let placed : (is_table c.args.table.now ≡ true) × IsLowerBound c.args.table.now c.day_of_date-n.result c.in-At.i = subst (Placed _ _) c.in-At.is c.place_in.ensures in
+    let p = placed in
+    (dated, c.day_of_date-n.ensures, table_ascends _ p.0, p.1)
 
 pub returns-else-business_at : goal.returns-else-business_at
 unfolding adjust_date
 returns-else-business_at c =
-    rw (dated c.before.before.before.before.before.before.before.before, (placed c.before.before.before).0)
+    let dated : is_date c.args.t ≡ true = sym c.is_date.ensures ∙ c.if-not-is_date.false in
+    let placed : (is_table c.args.table.now ≡ true) × IsLowerBound c.args.table.now c.day_of_date-n.result c.in-At.i = subst (Placed _ _) c.in-At.is c.place_in.ensures in
+    rw (dated, placed.0)
     (c.moved_date.ensures ∙ shut_moves c.args.t c.day_of_date-n.result c.args.table.now c.day_of_date-n.ensures c.args.rule (sym c.business_at.ensures ∙ c.if-business_at.false))
 
 pub returns-in-NoTable : goal.returns-in-NoTable
 unfolding adjust_date
 returns-in-NoTable c =
-    let refused : is_table c.args.table.now ≡ false = subst (Placed _ _) c.in-NoTable.is c.IsPlace-in.ensures in
-    rw (dated c.before.before.before.before, refused)
+    let dated : is_date c.args.t ≡ true = sym c.is_date.ensures ∙ c.if-not-is_date.false in
+    let refused : is_table c.args.table.now ≡ false = subst (Placed _ _) c.in-NoTable.is c.place_in.ensures in
+    rw (dated, refused)

@@ -11,7 +11,6 @@ use Rattle.calendar.specs.serial.Answers.{date_outcome}
 use Rattle.calendar.specs.declared.dates.Date.{Date}
 use Rattle.day_adjust.specs.Adjustment.{next_date, prev_date}
 use Rattle.day_adjust.proofs.ahead_date.Goals as goal
-use Rattle.day_adjust.proofs.ahead_date.Goals.{After-next_date}
 
 -- the month test
 abbrev tested : List ℕ → ℕ → ℕ → Bool → Date → Outcome Date
@@ -27,21 +26,26 @@ picked_same b e x y h k = rw (h, k)
 picked-other : (b e : Bool) (x y : Outcome Date) → b ≡ false → e ≡ false → y ≡ pick (b || e) x y
 picked-other b e x y h k = rw (h, k)
 
--- what the day that was found leads to
-after : (c : After-next_date) → Outcome Date → Outcome Date
-after c o = let a = c.args in and_then o (tested a.table.now a.n a.t.month a.across)
-
-leads : (c : After-next_date) (o : Outcome Date) → date_outcome c.next_date.result ≡ o → after c o ≡ after c (next_date c.args.table.now c.args.n)
-leads c o e = ap (after c) (sym e ∙ c.next_date.ensures)
-
 pub returns-then-across : goal.returns-then-across
-returns-then-across c = picked-across _ _ _ _ c.if-across.true ∙ leads c.before.before.before.before (given c.in-Date.u) (ap date_outcome c.in-Date.is)
+returns-then-across c =
+    let after : Outcome Date → Outcome Date = λ o. let a = c.args in and_then o (tested a.table.now a.n a.t.month a.across) in
+    let leads : (o : Outcome Date) → date_outcome c.next_date.result ≡ o → after o ≡ after (next_date c.args.table.now c.args.n) = λ o e. ap after (sym e ∙ c.next_date.ensures) in
+    picked-across _ _ _ _ c.if-across.true ∙ leads (given c.in-Date.u) (ap date_outcome c.in-Date.is)
 
 pub returns-then-u-t : goal.returns-then-u-t
-returns-then-u-t c = picked_same _ _ (given c.in-Date.u) (prev_date c.args.table.now c.args.n) c.if-across.false (eq-eqb _ _ c.if-u-t.true) ∙ leads c.before.before.before.before.before.before.before (given c.in-Date.u) (ap date_outcome c.in-Date.is)
+returns-then-u-t c =
+    let after : Outcome Date → Outcome Date = λ o. let a = c.args in and_then o (tested a.table.now a.n a.t.month a.across) in
+    let leads : (o : Outcome Date) → date_outcome c.next_date.result ≡ o → after o ≡ after (next_date c.args.table.now c.args.n) = λ o e. ap after (sym e ∙ c.next_date.ensures) in
+    picked_same _ _ (given c.in-Date.u) (prev_date c.args.table.now c.args.n) c.if-across.false (eq-eqb _ _ c.if-u-t.true) ∙ leads (given c.in-Date.u) (ap date_outcome c.in-Date.is)
 
 pub returns-else-u-t : goal.returns-else-u-t
-returns-else-u-t c = c.prev_date.ensures ∙ picked-other _ _ (given c.in-Date.u) _ c.if-across.false (ne_eqb _ _ c.if-u-t.false) ∙ leads c.before.before.before.before.before.before.before.before (given c.in-Date.u) (ap date_outcome c.in-Date.is)
+returns-else-u-t c =
+    let after : Outcome Date → Outcome Date = λ o. let a = c.args in and_then o (tested a.table.now a.n a.t.month a.across) in
+    let leads : (o : Outcome Date) → date_outcome c.next_date.result ≡ o → after o ≡ after (next_date c.args.table.now c.args.n) = λ o e. ap after (sym e ∙ c.next_date.ensures) in
+    c.prev_date.ensures ∙ picked-other _ _ (given c.in-Date.u) _ c.if-across.false (ne_eqb _ _ c.if-u-t.false) ∙ leads (given c.in-Date.u) (ap date_outcome c.in-Date.is)
 
 pub returns-in-Refused : goal.returns-in-Refused
-returns-in-Refused c = leads c.before.before.before (refused c.in-Refused.k) (ap date_outcome c.in-Refused.is)
+returns-in-Refused c =
+    let after : Outcome Date → Outcome Date = λ o. let a = c.args in and_then o (tested a.table.now a.n a.t.month a.across) in
+    let leads : (o : Outcome Date) → date_outcome c.next_date.result ≡ o → after o ≡ after (next_date c.args.table.now c.args.n) = λ o e. ap after (sym e ∙ c.next_date.ensures) in
+    leads (refused c.in-Refused.k) (ap date_outcome c.in-Refused.is)

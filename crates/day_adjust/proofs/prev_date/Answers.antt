@@ -12,31 +12,28 @@ use Rattle.day_adjust.specs.Adjustment.{prev_date}
 use Rattle.calendar.proofs.dates.Inverse.{date_on-day}
 use Rattle.day_adjust.proofs.Adjusting.{judged-at}
 use Rattle.day_adjust.proofs.prev_date.Goals as goal
-use Rattle.day_adjust.proofs.prev_date.Goals.{In-Day-2}
-
--- the day that the search found
-found : (c : In-Day-2) → prev_from c.args.table.now c.args.n ≡ given c.in-Day.d
-found c = sym c.prev_at.ensures ∙ ap day_outcome c.in-Day.is
-
-dated : (c : In-Day-2) → (1 ≤ c.in-Day.d.0) × (c.in-Day.d.0 ≤ 3652059)
-dated c =
-    let g = prev_gives c.args.table.now c.args.n c.in-Day.d (found c) in
-    let h = judged-at c.args.t c.args.n c.args.table.now c.requires.1 c.requires.0 c.requires.2 in
-    (omega arith, omega arith)
 
 pub prev_at-requires : goal.prev_at-requires
 prev_at-requires c = (judged-at c.args.t c.args.n c.args.table.now c.requires.1 c.requires.0 c.requires.2, c.requires.3)
 
 pub date_near-requires : goal.date_near-requires
 date_near-requires c =
-    let d = dated c.before in
+    let found : prev_from c.args.table.now c.args.n ≡ given c.in-Day.d = sym c.prev_at.ensures ∙ ap day_outcome c.in-Day.is in
+    let dated : (1 ≤ c.in-Day.d.0) × (c.in-Day.d.0 ≤ 3652059) = let g = prev_gives c.args.table.now c.args.n c.in-Day.d found in
+    let h = judged-at c.args.t c.args.n c.args.table.now c.requires.1 c.requires.0 c.requires.2 in
+    (omega arith, omega arith) in
+    let d = dated in
     (c.requires.0, c.requires.1, d.0, d.1)
 
 pub returns-in-Day : goal.returns-in-Day
 unfolding prev_date
 returns-in-Day c =
-    let d = dated c.before.before in
-    ap given c.date_near.ensures ∙ date_on-day c.in-Day.d d.0 d.1 ∙ ap (λ (o : Outcome Day). and_then o date_of) (sym (found c.before.before))
+    let found : prev_from c.args.table.now c.args.n ≡ given c.in-Day.d = sym c.prev_at.ensures ∙ ap day_outcome c.in-Day.is in
+    let dated : (1 ≤ c.in-Day.d.0) × (c.in-Day.d.0 ≤ 3652059) = let g = prev_gives c.args.table.now c.args.n c.in-Day.d found in
+    let h = judged-at c.args.t c.args.n c.args.table.now c.requires.1 c.requires.0 c.requires.2 in
+    (omega arith, omega arith) in
+    let d = dated in
+    ap given c.date_near.ensures ∙ date_on-day c.in-Day.d d.0 d.1 ∙ ap (λ (o : Outcome Day). and_then o date_of) (sym found)
 
 pub returns-in-Refused : goal.returns-in-Refused
 unfolding prev_date

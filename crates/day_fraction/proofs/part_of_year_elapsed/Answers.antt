@@ -35,12 +35,10 @@ overflow_sub-since c =
 
 pub returns-then-is_leap : goal.returns-then-is_leap
 returns-then-is_leap c =
-    let s : tie.Start = c.before.before.before.before.before in
-    let t = s.args.t in
-    over_by 366 lit366 (ap pos (since t _ s.requires c.days_before_month.ensures)) ∙ ap (quotient (pos (since_january t))) (year_length_lem t.year (date-yes t s.requires).year_from (sym c.is_leap.ensures ∙ c.if-is_leap.true))
+    let t = c.args.t in
+    over_by 366 lit366 (ap pos (since t _ c.requires c.days_before_month.ensures)) ∙ ap (quotient (pos (since_january t))) (year_length_lem t.year (date-yes t c.requires).year_from (sym c.is_leap.ensures ∙ c.if-is_leap.true))
 
 pub returns-else-is_leap : goal.returns-else-is_leap
 returns-else-is_leap c =
-    let s : tie.Start = c.before.before.before.before.before in
-    let t = s.args.t in
-    over_by 365 lit365 (ap pos (since t _ s.requires c.days_before_month.ensures)) ∙ ap (quotient (pos (since_january t))) (year_length_lem t.year (date-yes t s.requires).year_from (sym c.is_leap.ensures ∙ c.if-is_leap.false))
+    let t = c.args.t in
+    over_by 365 lit365 (ap pos (since t _ c.requires c.days_before_month.ensures)) ∙ ap (quotient (pos (since_january t))) (year_length_lem t.year (date-yes t c.requires).year_from (sym c.is_leap.ensures ∙ c.if-is_leap.false))

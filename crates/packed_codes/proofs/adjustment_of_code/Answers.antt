@@ -25,8 +25,8 @@ returns-in-3 c = rw c.in-3.is
 pub returns-in_default : goal.returns-in_default
 returns-in_default c =
     let n = c.args.code in
-    let l1 : 1 ≤ n = let x = c.in_default-own.rest.0.0.0.1 in omega arith in
-    let l2 : 2 ≤ n = let x = c.in_default-own.rest.0.0.1 in omega arith in
-    let l3 : 3 ≤ n = let x = c.in_default-own.rest.0.1 in omega arith in
-    let l4 : 4 ≤ n = let x = c.in_default-own.rest.1 in omega arith in
+    let l1 : 1 ≤ n = let x = c.in_default.in_default-own.rest.0.0.0.1 in omega arith in
+    let l2 : 2 ≤ n = let x = c.in_default.in_default-own.rest.0.0.1 in omega arith in
+    let l3 : 3 ≤ n = let x = c.in_default.in_default-own.rest.0.1 in omega arith in
+    let l4 : 4 ≤ n = let x = c.in_default.in_default-own.rest.1 in omega arith in
     no_place adjustments n l4

@@ -29,9 +29,9 @@ returns-in-4 c = rw c.in-4.is
 pub returns-in_default : goal.returns-in_default
 returns-in_default c =
     let n = c.args.code in
-    let l1 : 1 ≤ n = let x = c.in_default-own.rest.0.0.0.0.1 in omega arith in
-    let l2 : 2 ≤ n = let x = c.in_default-own.rest.0.0.0.1 in omega arith in
-    let l3 : 3 ≤ n = let x = c.in_default-own.rest.0.0.1 in omega arith in
-    let l4 : 4 ≤ n = let x = c.in_default-own.rest.0.1 in omega arith in
-    let l5 : 5 ≤ n = let x = c.in_default-own.rest.1 in omega arith in
+    let l1 : 1 ≤ n = let x = c.in_default.in_default-own.rest.0.0.0.0.1 in omega arith in
+    let l2 : 2 ≤ n = let x = c.in_default.in_default-own.rest.0.0.0.1 in omega arith in
+    let l3 : 3 ≤ n = let x = c.in_default.in_default-own.rest.0.0.1 in omega arith in
+    let l4 : 4 ≤ n = let x = c.in_default.in_default-own.rest.0.1 in omega arith in
+    let l5 : 5 ≤ n = let x = c.in_default.in_default-own.rest.1 in omega arith in
     no_place units n l5

@@ -6,25 +6,18 @@ use Rattle.accrued_interest.specs.note.Accrued.{coupon_period_outcome, period_ho
 use Rattle.accrued_interest.specs.declared.period.CouponPeriod.{CouponPeriod}
 use Rattle.accrued_interest.proofs.note.Walk.{holding_stops}
 use Rattle.accrued_interest.proofs.note.accrued_from.Goals as goal
-use Rattle.accrued_interest.proofs.note.accrued_from.Goals.{In-Period-2}
-
--- the period that the walk gives
-held : (c : In-Period-2) → period_holding c.args.note c.args.today c.args.first ≡ given c.in-Period.p
-held c = sym c.period_holding.ensures ∙ ap coupon_period_outcome c.in-Period.is
 
 pub accrued_in-requires : goal.accrued_in-requires
 accrued_in-requires c =
-    let s : tie.Start = c.before.before.before.before in
-    (s.requires.1, (holding_stops s.args.note s.args.today s.requires.0 s.requires.1 s.args.first _ s.requires.2 (held c.before)).0)
+    let held : period_holding c.args.note c.args.today c.args.first ≡ given c.in-Period.p = sym c.period_holding.ensures ∙ ap coupon_period_outcome c.in-Period.is in
+    (c.requires.1, (holding_stops c.args.note c.args.today c.requires.0 c.requires.1 c.args.first _ c.requires.2 held).0)
 
 pub returns-in-Period : goal.returns-in-Period
 unfolding accrued_from
 returns-in-Period c =
-    let s : tie.Start = c.before.before.before.before.before in
-    c.accrued_in.ensures ∙ sym (ap (λ (o : Outcome CouponPeriod). and_then o (accrued_in amounts_in_f64 s.args.note s.args.today)) (held c.before.before))
+    let held : period_holding c.args.note c.args.today c.args.first ≡ given c.in-Period.p = sym c.period_holding.ensures ∙ ap coupon_period_outcome c.in-Period.is in
+    c.accrued_in.ensures ∙ sym (ap (λ (o : Outcome CouponPeriod). and_then o (accrued_in amounts_in_f64 c.args.note c.args.today)) held)
 
 pub returns-in-Refused : goal.returns-in-Refused
 unfolding accrued_from
-returns-in-Refused c =
-    let s : tie.Start = c.before.before.before.before in
-    sym (ap (λ (o : Outcome CouponPeriod). and_then o (accrued_in amounts_in_f64 s.args.note s.args.today)) (sym c.period_holding.ensures ∙ ap coupon_period_outcome c.in-Refused.is))
+returns-in-Refused c = sym (ap (λ (o : Outcome CouponPeriod). and_then o (accrued_in amounts_in_f64 c.args.note c.args.today)) (sym c.period_holding.ensures ∙ ap coupon_period_outcome c.in-Refused.is))

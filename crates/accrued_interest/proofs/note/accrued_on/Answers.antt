@@ -9,14 +9,6 @@ use Rattle.calendar.specs.declared.dates.Date.{Date}
 use Rattle.accrued_interest.specs.note.Accrued.{running, accrued_from, accrued_on, amounts_in_f64}
 use Rattle.accrued_interest.proofs.note.Walk.{first_begun}
 use Rattle.accrued_interest.proofs.note.accrued_on.Goals as goal
-use Rattle.accrued_interest.proofs.note.accrued_on.Goals.{Else-is_before, Else-not-is_date}
-
--- today is a date of the calendar, and not before the issue
-dated : (c : Else-not-is_date) → is_date c.args.today ≡ true
-dated c = sym c.is_date.ensures ∙ c.if-not-is_date.false
-
-issued : (c : Else-is_before) → is_before c.args.today c.args.note.issue_date ≡ false
-issued c = sym c.is_before.ensures ∙ c.if-is_before.false
 
 pub returns-then-not-is_date : goal.returns-then-not-is_date
 unfolding accrued_on
@@ -24,21 +16,26 @@ returns-then-not-is_date c = rw (sym c.is_date.ensures ∙ c.if-not-is_date.true
 
 pub returns-then-is_before : goal.returns-then-is_before
 unfolding accrued_on
-returns-then-is_before c = rw (dated c.before.before.before, sym c.is_before.ensures ∙ c.if-is_before.true)
+returns-then-is_before c =
+    let dated : is_date c.args.today ≡ true = sym c.is_date.ensures ∙ c.if-not-is_date.false in
+    rw (dated, sym c.is_before.ensures ∙ c.if-is_before.true)
 
 pub accrued_from-requires : goal.accrued_from-requires
 accrued_from-requires c =
-    let s : tie.Start = c.before.before.before.before.before.before.before.before.before in
-    (s.requires.0, dated c.before.before.before.before.before.before.before, first_begun s.args.note s.args.today _ s.requires.1 (dated c.before.before.before.before.before.before.before) (issued c.before.before.before.before) (sym c.first_coupon_end.ensures ∙ ap date_outcome c.in-Date.is))
+    let dated : is_date c.args.today ≡ true = sym c.is_date.ensures ∙ c.if-not-is_date.false in
+    let issued : is_before c.args.today c.args.note.issue_date ≡ false = sym c.is_before.ensures ∙ c.if-is_before.false in
+    (c.requires.0, dated, first_begun c.args.note c.args.today _ c.requires.1 dated issued (sym c.first_coupon_end.ensures ∙ ap date_outcome c.in-Date.is))
 
 pub returns-in-Date : goal.returns-in-Date
 unfolding accrued_on
 returns-in-Date c =
-    let s : tie.Start = c.before.before.before.before.before.before.before.before.before.before in
-    rw (dated c.before.before.before.before.before.before.before.before, issued c.before.before.before.before.before) (c.accrued_from.ensures ∙ sym (ap (λ (o : Outcome Date). and_then o (λ end. accrued_from amounts_in_f64 s.args.note s.args.today (running s.args.note.issue_date end))) (sym c.first_coupon_end.ensures ∙ ap date_outcome c.in-Date.is)))
+    let dated : is_date c.args.today ≡ true = sym c.is_date.ensures ∙ c.if-not-is_date.false in
+    let issued : is_before c.args.today c.args.note.issue_date ≡ false = sym c.is_before.ensures ∙ c.if-is_before.false in
+    rw (dated, issued) (c.accrued_from.ensures ∙ sym (ap (λ (o : Outcome Date). and_then o (λ end. accrued_from amounts_in_f64 c.args.note c.args.today (running c.args.note.issue_date end))) (sym c.first_coupon_end.ensures ∙ ap date_outcome c.in-Date.is)))
 
 pub returns-in-Refused : goal.returns-in-Refused
 unfolding accrued_on
 returns-in-Refused c =
-    let s : tie.Start = c.before.before.before.before.before.before.before.before.before in
-    rw (dated c.before.before.before.before.before.before.before, issued c.before.before.before.before) (sym (ap (λ (o : Outcome Date). and_then o (λ end. accrued_from amounts_in_f64 s.args.note s.args.today (running s.args.note.issue_date end))) (sym c.first_coupon_end.ensures ∙ ap date_outcome c.in-Refused.is)))
+    let dated : is_date c.args.today ≡ true = sym c.is_date.ensures ∙ c.if-not-is_date.false in
+    let issued : is_before c.args.today c.args.note.issue_date ≡ false = sym c.is_before.ensures ∙ c.if-is_before.false in
+    rw (dated, issued) (sym (ap (λ (o : Outcome Date). and_then o (λ end. accrued_from amounts_in_f64 c.args.note c.args.today (running c.args.note.issue_date end))) (sym c.first_coupon_end.ensures ∙ ap date_outcome c.in-Refused.is)))

@@ -11,7 +11,6 @@ use Rattle.accrued_interest.proofs.note.next_end.Goals as goal
 
 pub returns-in-Monthly : goal.returns-in-Monthly
 returns-in-Monthly c =
-    let s : tie.Start = c.before.before.before.before in
     c.months_later.ensures
-    ∙ ap (λ (z : ℤ). months_later s.args.t z) (to_z-of_z (told s.args.p.num c.struct_told-1.given.0.1))
-    ∙ ap (λ (u : TimePeriodUnit). unit_step u s.args.p.num absent s.args.t) (sym c.in-Monthly.is)
+    ∙ ap (λ (z : ℤ). months_later c.args.t z) (to_z-of_z (told c.args.p.num c.struct_told-1.given.0.1))
+    ∙ ap (λ (u : TimePeriodUnit). unit_step u c.args.p.num absent c.args.t) (sym c.in-Monthly.is)

@@ -13,12 +13,9 @@ fraction-requires c = (c.requires.1.started, c.requires.1.ended, omega (arith, c
 pub returns-in-Fraction : goal.returns-in-Fraction
 unfolding amount_due
 returns-in-Fraction c =
-    let s : tie.Start = c.before.before.before.before.before in
     ap {B = Outcome Float} given c.due.ensures
-    ∙ sym (ap (λ (o : Outcome Float). and_then o (λ x. given (due_bits s.args.note x (elapsed_days s.args.p s.args.today) (period_days s.args.p)))) (sym c.fraction.ensures ∙ ap fraction_outcome c.in-Fraction.is))
+    ∙ sym (ap (λ (o : Outcome Float). and_then o (λ x. given (due_bits c.args.note x (elapsed_days c.args.p c.args.today) (period_days c.args.p)))) (sym c.fraction.ensures ∙ ap fraction_outcome c.in-Fraction.is))
 
 pub returns-in-Refused : goal.returns-in-Refused
 unfolding amount_due
-returns-in-Refused c =
-    let s : tie.Start = c.before.before.before.before in
-    sym (ap (λ (o : Outcome Float). and_then o (λ x. given (due_bits s.args.note x (elapsed_days s.args.p s.args.today) (period_days s.args.p)))) (sym c.fraction.ensures ∙ ap fraction_outcome c.in-Refused.is))
+returns-in-Refused c = sym (ap (λ (o : Outcome Float). and_then o (λ x. given (due_bits c.args.note x (elapsed_days c.args.p c.args.today) (period_days c.args.p)))) (sym c.fraction.ensures ∙ ap fraction_outcome c.in-Refused.is))

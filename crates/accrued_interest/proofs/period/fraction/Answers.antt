@@ -7,12 +7,9 @@ use Rattle.accrued_interest.specs.period.PeriodInterest.{rolled}
 use Rattle.accrued_interest.proofs.period.fraction.Goals as goal
 
 pub fraction_judged-requires : goal.fraction_judged-requires
-fraction_judged-requires c =
-    let s : tie.Start = c.before.before.before in
-    (record { first = s.requires.0; last = s.requires.1; order = s.requires.2 }, rw c.rolled_from-terms.ensures (roll_dated_lem s.args.note.day_count_convention s.args.p.start s.requires.0))
+fraction_judged-requires c = (record { first = c.requires.0; last = c.requires.1; order = c.requires.2 }, rw c.rolled_from-terms.ensures (roll_dated_lem c.args.note.day_count_convention c.args.p.start c.requires.0))
 
 pub returns : goal.returns
 returns c =
-    let s : tie.Start = c.before.before.before.before in
     (rw c.rolled_from-terms.ensures at c.fraction_judged.ensures)
-    ∙ sym (span_fraction fractions_in_f64 s.args.note.day_count_convention s.args.p.start s.args.p.end (rolled s.args.note s.args.p) (record { first = s.requires.0; last = s.requires.1; order = s.requires.2 }) (roll_dated_lem s.args.note.day_count_convention s.args.p.start s.requires.0))
+    ∙ sym (span_fraction fractions_in_f64 c.args.note.day_count_convention c.args.p.start c.args.p.end (rolled c.args.note c.args.p) (record { first = c.requires.0; last = c.requires.1; order = c.requires.2 }) (roll_dated_lem c.args.note.day_count_convention c.args.p.start c.requires.0))

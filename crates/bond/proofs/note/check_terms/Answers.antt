@@ -7,14 +7,6 @@ use Rattle.coupon_date.specs.Coupons.{coupon_outcome}
 use Rattle.coupon_date.specs.declared.CouponDate.{CouponDate}
 use Rattle.bond.specs.note.Notes.{period_checks, term_checks}
 use Rattle.bond.proofs.note.check_terms.Goals as goal
-use Rattle.bond.proofs.note.check_terms.Goals.{Else-not-is_date, Else-not-is_date-2}
-
--- both dates exist
-issued : (c : Else-not-is_date) → is_date c.args.note.issue_date ≡ true
-issued c = sym c.is_date.ensures ∙ c.if-not-is_date.false
-
-matures : (c : Else-not-is_date-2) → is_date c.args.note.maturity ≡ true
-matures c = sym c.is_date-2.ensures ∙ c.if-not-is_date-2.false
 
 pub returns-then-not-is_date : goal.returns-then-not-is_date
 unfolding term_checks
@@ -22,20 +14,26 @@ returns-then-not-is_date c = rw (sym c.is_date.ensures ∙ c.if-not-is_date.true
 
 pub returns-then-not-is_date-2 : goal.returns-then-not-is_date-2
 unfolding term_checks
-returns-then-not-is_date-2 c = rw (issued c.before.before, sym c.is_date-2.ensures ∙ c.if-not-is_date-2.true)
+returns-then-not-is_date-2 c =
+    let issued : is_date c.args.note.issue_date ≡ true = sym c.is_date.ensures ∙ c.if-not-is_date.false in
+    rw (issued, sym c.is_date-2.ensures ∙ c.if-not-is_date-2.true)
 
 pub returns-in-Coupon : goal.returns-in-Coupon
 unfolding term_checks
 returns-in-Coupon c =
+    let issued : is_date c.args.note.issue_date ≡ true = sym c.is_date.ensures ∙ c.if-not-is_date.false in
+    let matures : is_date c.args.note.maturity ≡ true = sym c.is_date-2.ensures ∙ c.if-not-is_date-2.false in
     let n = c.args.note in
     let t = c.args.table in
-    rw (issued c.before.before.before.before.before.before.before, matures c.before.before.before.before.before)
+    rw (issued, matures)
     (c.check_period.ensures ∙ ap (λ (o : Outcome CouponDate). and_then o (λ x. period_checks t n)) (ap coupon_outcome (sym c.in-Coupon.is) ∙ c.new_coupon_date.ensures))
 
 pub returns-in-Refused : goal.returns-in-Refused
 unfolding term_checks
 returns-in-Refused c =
+    let issued : is_date c.args.note.issue_date ≡ true = sym c.is_date.ensures ∙ c.if-not-is_date.false in
+    let matures : is_date c.args.note.maturity ≡ true = sym c.is_date-2.ensures ∙ c.if-not-is_date-2.false in
     let n = c.args.note in
     let t = c.args.table in
-    rw (issued c.before.before.before.before.before.before.before, matures c.before.before.before.before.before)
+    rw (issued, matures)
     (ap (λ (o : Outcome CouponDate). and_then o (λ x. period_checks t n)) (ap coupon_outcome (sym c.in-Refused.is) ∙ c.new_coupon_date.ensures))

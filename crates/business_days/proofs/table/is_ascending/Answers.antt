@@ -1,11 +1,11 @@
 -- `business_days::is_ascending` meets its contract: what was good so far, the last day and what is
 -- left of the table decide. The measure is what is left of its length.
-use Prim.Native.Nat.{◌-◌, zero-le}
+use Prim.Native.Nat.{zero-le}
 use mathlib.Core.Path.{refl}
-use mathlib.Core.Logic.{⊎_elim}
 use native.Mathlib.Omega.{arith}
 use Rattle.business_days.proofs.table.Judging.{not-later, later, past_the_end, within_the_end}
 use Rattle.business_days.proofs.table.is_ascending.Goals as goal
+use Rattle.business_days.proofs.table.is_ascending.Goals.{then-day-last, else-day-last}
 
 pub loop-i-init : goal.loop-i-init
 loop-i-init _ = (zero-le, refl)
@@ -15,10 +15,9 @@ loop-i-preserved c =
     let l = c.loop-i in
     let t = c.args.table.now in (
       omega arith,
-      ⊎_elim
-          (λ w. rw w.1 (not-later t l.good l.last l.i l.invariant.1 c.loop-i-test.true w.0.taken))
-          (λ w. rw w.1 (later t l.good l.last l.i l.invariant.1 c.loop-i-test.true w.0.left))
-          c.if-day-last.branch,
+      elim c.if-day-last.branch [
+        then-day-last w ↦ rw w.good-is (not-later t l.good l.last l.i l.invariant.1 c.loop-i-test.true w.if-day-last.true)
+        | else-day-last w ↦ rw w.good-is (later t l.good l.last l.i l.invariant.1 c.loop-i-test.true w.if-day-last.false) ],
     )
 
 pub returns-then-last-gt-LAST_DAY : goal.returns-then-last-gt-LAST_DAY

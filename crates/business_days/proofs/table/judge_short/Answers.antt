@@ -1,10 +1,9 @@
 -- `business_days::judge_short` meets its contract: that nothing was wrong so far, the last day and
 -- what is left of the table decide, and what is counted so far and what is left are all the days
 -- before. The measure is what is left of the table's length.
-use Prim.Native.Nat.{◌+◌, ◌-◌, zero-le}
+use Prim.Native.Nat.{◌+◌, zero-le}
 use mathlib.Core.Path.{◌≡◌, refl, sym, ◌∙◌, subst}
 use mathlib.Core.Bool.{true}
-use mathlib.Core.Logic.{⊎_elim}
 use native.Mathlib.Omega.{arith}
 use lib.Dec.{eqb}
 use borrow.Author.Tests.{eq-eqb, ne_eqb, lt-ltb, le-ltb}
@@ -15,6 +14,7 @@ use Rattle.business_days.proofs.table.Table.{table_is}
 use Rattle.business_days.proofs.table.Judging.{not-later, later, past_the_end, within_the_end}
 use Rattle.business_days.proofs.table.Counted.{is_below, counted-place}
 use Rattle.business_days.proofs.table.judge_short.Goals as goal
+use Rattle.business_days.proofs.table.judge_short.Goals.{then-at-n, else-at-n, then-at-last, else-at-last}
 
 pub loop-i-init : goal.loop-i-init
 loop-i-init _ = (passed_none _ _, zero-le, refl)
@@ -24,15 +24,13 @@ loop-i-preserved c =
     let l = c.loop-i in
     let t = c.args.table.now in
     let in_table = c.loop-i-test.true in (
-      ⊎_elim
-          (λ w. rw w.1 (passed_yes (is_below c.args.n) t l.i l.before _ in_table (head_at t l.i 0 in_table) l.invariant.0 (lt-ltb _ _ w.0.taken)))
-          (λ w. rw w.1 (passed_no (is_below c.args.n) t l.i l.before _ in_table (head_at t l.i 0 in_table) l.invariant.0 (le-ltb _ _ w.0.left)))
-          c.if-at-n.branch,
-      ⊎_elim (λ w. rw w.1 (omega arith)) (λ w. rw w.1 (omega arith)) c.if-at-last.branch,
-      ⊎_elim
-          (λ w. rw (w.1, ne_eqb (l.wrong + 1) 0 (λ e. omega arith)) (not-later t (eqb l.wrong 0) l.last l.i l.invariant.2 in_table w.0.taken))
-          (λ w. rw w.1 (later t (eqb l.wrong 0) l.last l.i l.invariant.2 in_table w.0.left))
-          c.if-at-last.branch,
+      elim c.if-at-n.branch [
+        then-at-n w ↦ rw w.before-is (passed_yes (is_below c.args.n) t l.i l.before _ in_table (head_at t l.i 0 in_table) l.invariant.0 (lt-ltb _ _ w.if-at-n.true))
+        | else-at-n w ↦ rw w.before-is (passed_no (is_below c.args.n) t l.i l.before _ in_table (head_at t l.i 0 in_table) l.invariant.0 (le-ltb _ _ w.if-at-n.false)) ],
+      elim c.if-at-last.branch [ then-at-last w ↦ omega arith | else-at-last w ↦ omega arith ],
+      elim c.if-at-last.branch [
+        then-at-last w ↦ rw (w.wrong-is, ne_eqb (l.wrong + 1) 0 (λ e. omega arith)) (not-later t (eqb l.wrong 0) l.last l.i l.invariant.2 in_table w.if-at-last.true)
+        | else-at-last w ↦ rw w.wrong-is (later t (eqb l.wrong 0) l.last l.i l.invariant.2 in_table w.if-at-last.false) ],
     )
 
 pub returns-then-last-gt-LAST_DAY : goal.returns-then-last-gt-LAST_DAY

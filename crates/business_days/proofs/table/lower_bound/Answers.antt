@@ -1,6 +1,5 @@
 -- `business_days::lower_bound` meets its contract: the place lies between two bounds, and each turn
 -- halves what is between. The measure is their distance.
-use Prim.Native.Nat.{◌-◌}
 use native.Mathlib.Omega.{arith}
 use Rattle.business_days.proofs.table.Places.{bracket_whole, bracket_up, bracket_down, bracket_ends}
 use Rattle.business_days.proofs.table.lower_bound.Goals as goal

@@ -1,6 +1,5 @@
 -- `business_days::lower_bound_from` meets its contract: before the place all is before the day, and
 -- the place goes on until it is not.
-use Prim.Native.Nat.{◌-◌}
 use native.Mathlib.Omega.{arith}
 use Rattle.business_days.proofs.table.Places.{bracket_up, bracket_down, bracket_ends}
 use Rattle.business_days.proofs.walk.Places.{bracket_near}

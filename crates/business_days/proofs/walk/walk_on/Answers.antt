@@ -1,6 +1,5 @@
 -- `business_days::walk_on` meets its contract: at each day what is left to do is the whole answer.
 -- The measure is the days left of the calendar.
-use Prim.Native.Nat.{◌-◌}
 use mathlib.Core.Path.{sym, ◌∙◌}
 use native.Mathlib.Omega.{arith}
 use Rattle.business_days.proofs.walk.Walks.{onward_from, onward_done, onward_over, onward_inside, onward_holiday, onward_weekend, onward_business}

@@ -6,12 +6,9 @@ use Rattle.day_count_conv.specs.declared.conventions.RollDate.{RollDate}
 use Rattle.day_count_conv.proofs.conventions.act_act_icma.Goals as goal
 
 pub frequent-requires : goal.frequent-requires
-frequent-requires c =
-    let s : tie.Start = c.before.before.before.before.before.before in
-    (s.requires.0, s.requires.1, s.requires.2, ap roll_date_exists (sym c.in-Date.is) ∙ s.requires.3)
+frequent-requires c = (c.requires.0, c.requires.1, c.requires.2, ap roll_date_exists (sym c.in-Date.is) ∙ c.requires.3)
 
 pub returns-in-Period : goal.returns-in-Period
 returns-in-Period c =
-    let s : tie.Start = c.before.before.before.before.before.before.before in
     let r = c.roll_date-1.given in
-    c.frequent.ensures ∙ ap (λ (p : RollPeriod). period_fraction fractions_in_f64 p s.args.start s.args.end r.0.0) (sym c.in-Period.is) ∙ ap (λ (d : RollDate). icma_fraction fractions_in_f64 d s.args.x.period s.args.start s.args.end) (sym r.1)
+    c.frequent.ensures ∙ ap (λ (p : RollPeriod). period_fraction fractions_in_f64 p c.args.start c.args.end r.0.0) (sym c.in-Period.is) ∙ ap (λ (d : RollDate). icma_fraction fractions_in_f64 d c.args.x.period c.args.start c.args.end) (sym r.1)

@@ -8,12 +8,8 @@ use Rattle.day_count_conv.proofs.conventions.frequent.Goals as goal
 
 pub returns-in-Frequency : goal.returns-in-Frequency
 unfolding frequent_fraction
-returns-in-Frequency c =
-    let s : tie.Start = c.before.before.before.before.before in
-    c.walked.ensures ∙ sym (ap (λ (o : Outcome ℕ). and_then o (walked_fraction fractions_in_f64 s.args.p s.args.start s.args.end s.args.roll)) (sym c.frequency.ensures ∙ ap frequency_outcome c.in-Frequency.is))
+returns-in-Frequency c = c.walked.ensures ∙ sym (ap (λ (o : Outcome ℕ). and_then o (walked_fraction fractions_in_f64 c.args.p c.args.start c.args.end c.args.roll)) (sym c.frequency.ensures ∙ ap frequency_outcome c.in-Frequency.is))
 
 pub returns-in-Refused : goal.returns-in-Refused
 unfolding frequent_fraction
-returns-in-Refused c =
-    let s : tie.Start = c.before.before.before.before in
-    sym (ap (λ (o : Outcome ℕ). and_then o (walked_fraction fractions_in_f64 s.args.p s.args.start s.args.end s.args.roll)) (sym c.frequency.ensures ∙ ap frequency_outcome c.in-Refused.is))
+returns-in-Refused c = sym (ap (λ (o : Outcome ℕ). and_then o (walked_fraction fractions_in_f64 c.args.p c.args.start c.args.end c.args.roll)) (sym c.frequency.ensures ∙ ap frequency_outcome c.in-Refused.is))

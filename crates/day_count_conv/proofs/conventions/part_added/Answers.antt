@@ -7,13 +7,8 @@ use mir.Val.{SFits}
 use mir.Facts.{to_z-of_z}
 use Rattle.day_count_conv.specs.conventions.Conventions.{part_added}
 use Rattle.day_count_conv.proofs.conventions.part_added.Goals as goal
-use Rattle.day_count_conv.proofs.conventions.part_added.Goals.{In-Part}
-
--- the days fit 32 bits
-days_fit : (c : In-Part) → SFits w32 c.in-Part.days
-days_fit c = record { sfits = c.known_told-1.given.0.1 }
 
 pub returns-in-Part : goal.returns-in-Part
 returns-in-Part c =
-    let s : tie.Start = c.before.before.before.before.before in
-    ap (λ (z : ℤ). add binary64 s.args.yf (div binary64 (of_int binary64 z) (of_int binary64 (pos c.in-Part.length)))) (to_z-of_z (days_fit c.before.before)) ∙ ap (part_added s.args.yf) (sym c.in-Part.is)
+    let days_fit : SFits w32 c.in-Part.days = record { sfits = c.known_told-1.given.0.1 } in
+    ap (λ (z : ℤ). add binary64 c.args.yf (div binary64 (of_int binary64 z) (of_int binary64 (pos c.in-Part.length)))) (to_z-of_z days_fit) ∙ ap (part_added c.args.yf) (sym c.in-Part.is)

@@ -6,11 +6,7 @@ use Rattle.day_count_conv.specs.conventions.Conventions.{part_added, parts_bits}
 use Rattle.day_count_conv.proofs.conventions.parts_bits.Goals as goal
 
 pub returns-in-Short : goal.returns-in-Short
-returns-in-Short c =
-    let s : tie.Start = c.before.before.before.before.before.before in
-    ap (parts_bits s.args.frequency) (sym c.in-Short.is)
+returns-in-Short c = ap (parts_bits c.args.frequency) (sym c.in-Short.is)
 
 pub returns-in-Long : goal.returns-in-Long
-returns-in-Long c =
-    let s : tie.Start = c.before.before.before.before.before.before.before in
-    ap (λ (x : Float). div binary64 (add binary64 x (of_int binary64 (pos c.in-Long.count))) (of_int binary64 (pos s.args.frequency))) (c.part_added-yf.ensures ∙ ap (λ (x : Float). part_added x c.in-Long.last) c.part_added.ensures) ∙ ap (parts_bits s.args.frequency) (sym c.in-Long.is)
+returns-in-Long c = ap (λ (x : Float). div binary64 (add binary64 x (of_int binary64 (pos c.in-Long.count))) (of_int binary64 (pos c.args.frequency))) (c.part_added-yf.ensures ∙ ap (λ (x : Float). part_added x c.in-Long.last) c.part_added.ensures) ∙ ap (parts_bits c.args.frequency) (sym c.in-Long.is)

@@ -16,32 +16,25 @@ use Rattle.day_count_conv.specs.conventions.Conventions.{parts_bits}
 use Rattle.day_count_conv.specs.conventions.Whole.{whole_period}
 use Rattle.outcome.proofs.Numbers.{at_most, not_at_most}
 use Rattle.day_count_conv.proofs.conventions.whole_period.Goals as goal
-use Rattle.day_count_conv.proofs.conventions.whole_period.Goals.{After-struct_told-1, In-Frequency-2}
-
--- the frequency found
-found : (c : In-Frequency-2) → frequency_of c.args.p ≡ given c.in-Frequency.f
-found c = sym c.frequency.ensures ∙ ap frequency_outcome c.in-Frequency.is
-
--- the number, as it is read back, and its test
-kept : (c : After-struct_told-1) → to_z w32 (of_z w32 c.args.p.num) ≡ c.args.p.num
-kept c =
-    let f : SFits w32 c.args.p.num = record { sfits = c.struct_told-1.given.0.1 } in
-    to_z-of_z f
 
 pub returns-then-p-lt1 : goal.returns-then-p-lt1
 unfolding whole_period
 returns-then-p-lt1 c =
+    let found : frequency_of c.args.p ≡ given c.in-Frequency.f = sym c.frequency.ensures ∙ ap frequency_outcome c.in-Frequency.is in
+    let kept : to_z w32 (of_z w32 c.args.p.num) ≡ c.args.p.num = let f : SFits w32 c.args.p.num = record { sfits = c.struct_told-1.given.0.1 } in
+    to_z-of_z f in
     let n = c.args.p.num in
-    rw (found c.before.before.before.before, not_at_most n (pos 1) (subst (λ (z : ℤ). lt_z z (pos 1) ≡ true) (kept c.before) c.if-p-lt1.true))
+    rw (found, not_at_most n (pos 1) (subst (λ (z : ℤ). lt_z z (pos 1) ≡ true) kept c.if-p-lt1.true))
 
 pub returns-else-p-lt1 : goal.returns-else-p-lt1
 unfolding whole_period
 returns-else-p-lt1 c =
+    let found : frequency_of c.args.p ≡ given c.in-Frequency.f = sym c.frequency.ensures ∙ ap frequency_outcome c.in-Frequency.is in
+    let kept : to_z w32 (of_z w32 c.args.p.num) ≡ c.args.p.num = let f : SFits w32 c.args.p.num = record { sfits = c.struct_told-1.given.0.1 } in
+    to_z-of_z f in
     let n = c.args.p.num in
-    rw (found c.before.before.before.before.before, at_most n (pos 1) (subst (λ (z : ℤ). lt_z z (pos 1) ≡ false) (kept c.before.before) c.if-p-lt1.false)) (ap {B = Outcome Float} given c.parts_bits.ensures)
+    rw (found, at_most n (pos 1) (subst (λ (z : ℤ). lt_z z (pos 1) ≡ false) kept c.if-p-lt1.false)) (ap {B = Outcome Float} given c.parts_bits.ensures)
 
 pub returns-in-Refused : goal.returns-in-Refused
 unfolding whole_period
-returns-in-Refused c =
-    let s : tie.Start = c.before.before.before.before in
-    sym (ap (λ (o : Outcome ℕ). and_then o (λ f. unless (le_z (pos 1) s.args.p.num) 14 (given (parts_bits f (Long Nothing Nothing 1))))) (sym c.frequency.ensures ∙ ap frequency_outcome c.in-Refused.is))
+returns-in-Refused c = sym (ap (λ (o : Outcome ℕ). and_then o (λ f. unless (le_z (pos 1) c.args.p.num) 14 (given (parts_bits f (Long Nothing Nothing 1))))) (sym c.frequency.ensures ∙ ap frequency_outcome c.in-Refused.is))

@@ -5,11 +5,12 @@ use mathlib.Core.Path.{◌≡◌, refl, sym, ◌∙◌, ap}
 use lib.Ieee.{Float}
 use Rattle.outcome.specs.Outcome.{Outcome, given, unless}
 use Rattle.calendar.specs.dates.Dates.{is_date}
-use Rattle.day_fraction.specs.Fractions.{impossible}
+use Rattle.day_fraction.specs.Fractions.{Span, impossible}
 use Rattle.day_fraction.specs.declared.SimpleRule.TheVariants as simple
-use Rattle.day_count_conv.specs.conventions.Conventions.{no_terms, roll_dated, simple_fraction, year_fraction}
+use Rattle.day_count_conv.specs.conventions.Conventions.{FractionWithin, fractions_in_f64, fractions_exactly, no_terms, by_rule, roll_dated, simple_fraction, year_fraction}
 use Rattle.day_count_conv.specs.declared.conventions.DayCountConv.{DayCountConv}
 use Rattle.day_count_conv.specs.declared.conventions.DayCountConv.TheVariants as conv
+use Rattle.day_count_conv.proofs.conventions.Judged.{spans, span_fraction}
 use Rattle.day_count_conv.proofs.conventions.Bounds.{promised}
 use Rattle.day_count_conv.proofs.fractions.fraction_between.Goals as goal
 
@@ -24,62 +25,135 @@ unrolled conv.ActActICMA = refl
 
 pub returns-then-not-is_date : goal.returns-then-not-is_date
 unfolding year_fraction
-returns-then-not-is_date c =
-    let s : tie.Start = c.before.before in
-    promised s.args.convention s.args.from s.args.to no_terms _ (rw (sym c.is_date.ensures ∙ c.if-not-is_date.true))
+returns-then-not-is_date c = promised c.args.convention c.args.from c.args.to no_terms _ (rw (sym c.is_date.ensures ∙ c.if-not-is_date.true))
 
 pub returns-then-not-is_date-2 : goal.returns-then-not-is_date-2
 unfolding year_fraction
-returns-then-not-is_date-2 c =
-    let s : tie.Start = c.before.before.before.before in
-    promised s.args.convention s.args.from s.args.to no_terms _ (rw (sym c.is_date.ensures ∙ c.if-not-is_date.false, sym c.is_date-2.ensures ∙ c.if-not-is_date-2.true))
+returns-then-not-is_date-2 c = promised c.args.convention c.args.from c.args.to no_terms _ (rw (sym c.is_date.ensures ∙ c.if-not-is_date.false, sym c.is_date-2.ensures ∙ c.if-not-is_date-2.true))
 
 pub returns-then-is_before : goal.returns-then-is_before
 unfolding year_fraction
 returns-then-is_before c =
-    let s = begun c.before.before in
-    promised s.args.convention s.args.from s.args.to no_terms _ (rw (starts c.before.before, ends c.before.before, unrolled s.args.convention, sym c.is_before.ensures ∙ c.if-is_before.true))
+    let starts : is_date c.args.from ≡ true = sym c.is_date.ensures ∙ c.if-not-is_date.false in
+    let ends : is_date c.args.to ≡ true = sym c.is_date-2.ensures ∙ c.if-not-is_date-2.false in
+    promised c.args.convention c.args.from c.args.to no_terms _ (rw (starts, ends, unrolled c.args.convention, sym c.is_before.ensures ∙ c.if-is_before.true))
 
 pub calc_act_365-requires : goal.calc_act_365-requires
-calc_act_365-requires c = span c.before.before
+calc_act_365-requires c =
+    let starts : is_date c.args.from ≡ true = sym c.is_date.ensures ∙ c.if-not-is_date.false in
+    let ends : is_date c.args.to ≡ true = sym c.is_date-2.ensures ∙ c.if-not-is_date-2.false in
+    let span : Span (asked ⟪ctx⟫).args.from (asked ⟪ctx⟫).args.to = spans _ _ starts ends (sym c.is_before.ensures ∙ c.if-is_before.false) in
+    span
 
 pub calc_act_360-requires : goal.calc_act_360-requires
-calc_act_360-requires c = span c.before.before
+calc_act_360-requires c =
+    let starts : is_date c.args.from ≡ true = sym c.is_date.ensures ∙ c.if-not-is_date.false in
+    let ends : is_date c.args.to ≡ true = sym c.is_date-2.ensures ∙ c.if-not-is_date-2.false in
+    let span : Span (asked ⟪ctx⟫).args.from (asked ⟪ctx⟫).args.to = spans _ _ starts ends (sym c.is_before.ensures ∙ c.if-is_before.false) in
+    span
 
 pub calc_act_365_leap-requires : goal.calc_act_365_leap-requires
-calc_act_365_leap-requires c = span c.before.before
+calc_act_365_leap-requires c =
+    let starts : is_date c.args.from ≡ true = sym c.is_date.ensures ∙ c.if-not-is_date.false in
+    let ends : is_date c.args.to ≡ true = sym c.is_date-2.ensures ∙ c.if-not-is_date-2.false in
+    let span : Span (asked ⟪ctx⟫).args.from (asked ⟪ctx⟫).args.to = spans _ _ starts ends (sym c.is_before.ensures ∙ c.if-is_before.false) in
+    span
 
 pub calc_30_360-requires : goal.calc_30_360-requires
-calc_30_360-requires c = span c.before.before
+calc_30_360-requires c =
+    let starts : is_date c.args.from ≡ true = sym c.is_date.ensures ∙ c.if-not-is_date.false in
+    let ends : is_date c.args.to ≡ true = sym c.is_date-2.ensures ∙ c.if-not-is_date-2.false in
+    let span : Span (asked ⟪ctx⟫).args.from (asked ⟪ctx⟫).args.to = spans _ _ starts ends (sym c.is_before.ensures ∙ c.if-is_before.false) in
+    span
 
 pub unless_zero-requires : goal.unless_zero-requires
-unless_zero-requires c = span c.before.before.before
+unless_zero-requires c =
+    let starts : is_date c.args.from ≡ true = sym c.is_date.ensures ∙ c.if-not-is_date.false in
+    let ends : is_date c.args.to ≡ true = sym c.is_date-2.ensures ∙ c.if-not-is_date-2.false in
+    let span : Span (asked ⟪ctx⟫).args.from (asked ⟪ctx⟫).args.to = spans _ _ starts ends (sym c.is_before.ensures ∙ c.if-is_before.false) in
+    span
 
 pub calc_30_e_360-requires : goal.calc_30_e_360-requires
-calc_30_e_360-requires c = span c.before.before
+calc_30_e_360-requires c =
+    let starts : is_date c.args.from ≡ true = sym c.is_date.ensures ∙ c.if-not-is_date.false in
+    let ends : is_date c.args.to ≡ true = sym c.is_date-2.ensures ∙ c.if-not-is_date-2.false in
+    let span : Span (asked ⟪ctx⟫).args.from (asked ⟪ctx⟫).args.to = spans _ _ starts ends (sym c.is_before.ensures ∙ c.if-is_before.false) in
+    span
 
 pub unless_zero-requires-in-D30E360 : goal.unless_zero-requires-in-D30E360
-unless_zero-requires-in-D30E360 c = span c.before.before.before
+unless_zero-requires-in-D30E360 c =
+    let starts : is_date c.args.from ≡ true = sym c.is_date.ensures ∙ c.if-not-is_date.false in
+    let ends : is_date c.args.to ≡ true = sym c.is_date-2.ensures ∙ c.if-not-is_date-2.false in
+    let span : Span (asked ⟪ctx⟫).args.from (asked ⟪ctx⟫).args.to = spans _ _ starts ends (sym c.is_before.ensures ∙ c.if-is_before.false) in
+    span
 
 pub returns-in-Act365 : goal.returns-in-Act365
 unfolding impossible simple_fraction
-returns-in-Act365 c = told c.before.before.before _ conv.Act365 c.in-Act365.is (ap {B = Outcome Float} given c.calc_act_365.ensures)
+returns-in-Act365 c =
+    let asked : tie.Start = begun c in
+    let starts : is_date c.args.from ≡ true = sym c.is_date.ensures ∙ c.if-not-is_date.false in
+    let ends : is_date c.args.to ≡ true = sym c.is_date-2.ensures ∙ c.if-not-is_date-2.false in
+    let span : Span (asked ⟪ctx⟫).args.from (asked ⟪ctx⟫).args.to = spans _ _ starts ends (sym c.is_before.ensures ∙ c.if-is_before.false) in
+    let Rule : DayCountConv → Outcome Float = λ r. by_rule fractions_in_f64 r asked.args.from asked.args.to no_terms in
+    let told : (o : Outcome Float) (r : DayCountConv) → (asked ⟪ctx⟫).args.convention ≡ r → o ≡ (Rule ⟪ctx⟫) r → (o ≡ year_fraction fractions_in_f64 (asked ⟪ctx⟫).args.convention (asked ⟪ctx⟫).args.from (asked ⟪ctx⟫).args.to no_terms) × FractionWithin o (year_fraction fractions_exactly (asked ⟪ctx⟫).args.convention (asked ⟪ctx⟫).args.from (asked ⟪ctx⟫).args.to no_terms) = λ o r t e. promised asked.args.convention asked.args.from asked.args.to no_terms o
+    (e ∙ ap Rule (sym t) ∙ sym (span_fraction fractions_in_f64 asked.args.convention asked.args.from asked.args.to no_terms span (unrolled asked.args.convention))) in
+    told _ conv.Act365 c.in-Act365.is (ap {B = Outcome Float} given c.calc_act_365.ensures)
 
 pub returns-in-Act360 : goal.returns-in-Act360
 unfolding impossible simple_fraction
-returns-in-Act360 c = told c.before.before.before _ conv.Act360 c.in-Act360.is (ap {B = Outcome Float} given c.calc_act_360.ensures)
+returns-in-Act360 c =
+    let asked : tie.Start = begun c in
+    let starts : is_date c.args.from ≡ true = sym c.is_date.ensures ∙ c.if-not-is_date.false in
+    let ends : is_date c.args.to ≡ true = sym c.is_date-2.ensures ∙ c.if-not-is_date-2.false in
+    let span : Span (asked ⟪ctx⟫).args.from (asked ⟪ctx⟫).args.to = spans _ _ starts ends (sym c.is_before.ensures ∙ c.if-is_before.false) in
+    let Rule : DayCountConv → Outcome Float = λ r. by_rule fractions_in_f64 r asked.args.from asked.args.to no_terms in
+    let told : (o : Outcome Float) (r : DayCountConv) → (asked ⟪ctx⟫).args.convention ≡ r → o ≡ (Rule ⟪ctx⟫) r → (o ≡ year_fraction fractions_in_f64 (asked ⟪ctx⟫).args.convention (asked ⟪ctx⟫).args.from (asked ⟪ctx⟫).args.to no_terms) × FractionWithin o (year_fraction fractions_exactly (asked ⟪ctx⟫).args.convention (asked ⟪ctx⟫).args.from (asked ⟪ctx⟫).args.to no_terms) = λ o r t e. promised asked.args.convention asked.args.from asked.args.to no_terms o
+    (e ∙ ap Rule (sym t) ∙ sym (span_fraction fractions_in_f64 asked.args.convention asked.args.from asked.args.to no_terms span (unrolled asked.args.convention))) in
+    told _ conv.Act360 c.in-Act360.is (ap {B = Outcome Float} given c.calc_act_360.ensures)
 
 pub returns-in-Act365l : goal.returns-in-Act365l
 unfolding impossible simple_fraction
-returns-in-Act365l c = told c.before.before.before _ conv.Act365l c.in-Act365l.is (ap {B = Outcome Float} given c.calc_act_365_leap.ensures)
+returns-in-Act365l c =
+    let asked : tie.Start = begun c in
+    let starts : is_date c.args.from ≡ true = sym c.is_date.ensures ∙ c.if-not-is_date.false in
+    let ends : is_date c.args.to ≡ true = sym c.is_date-2.ensures ∙ c.if-not-is_date-2.false in
+    let span : Span (asked ⟪ctx⟫).args.from (asked ⟪ctx⟫).args.to = spans _ _ starts ends (sym c.is_before.ensures ∙ c.if-is_before.false) in
+    let Rule : DayCountConv → Outcome Float = λ r. by_rule fractions_in_f64 r asked.args.from asked.args.to no_terms in
+    let told : (o : Outcome Float) (r : DayCountConv) → (asked ⟪ctx⟫).args.convention ≡ r → o ≡ (Rule ⟪ctx⟫) r → (o ≡ year_fraction fractions_in_f64 (asked ⟪ctx⟫).args.convention (asked ⟪ctx⟫).args.from (asked ⟪ctx⟫).args.to no_terms) × FractionWithin o (year_fraction fractions_exactly (asked ⟪ctx⟫).args.convention (asked ⟪ctx⟫).args.from (asked ⟪ctx⟫).args.to no_terms) = λ o r t e. promised asked.args.convention asked.args.from asked.args.to no_terms o
+    (e ∙ ap Rule (sym t) ∙ sym (span_fraction fractions_in_f64 asked.args.convention asked.args.from asked.args.to no_terms span (unrolled asked.args.convention))) in
+    told _ conv.Act365l c.in-Act365l.is (ap {B = Outcome Float} given c.calc_act_365_leap.ensures)
 
 pub returns-in-D30_360 : goal.returns-in-D30_360
 unfolding simple_fraction
-returns-in-D30_360 c = told c.before.before.before.before _ conv.D30_360 c.in-D30_360.is (c.unless_zero.ensures.0 ∙ ap (λ (x : Float). unless (not (impossible simple.D30_360 (asked c.before.before.before.before).args.from (asked c.before.before.before.before).args.to)) 9 (given x)) c.calc_30_360.ensures)
+returns-in-D30_360 c =
+    let asked : tie.Start = begun c in
+    let starts : is_date c.args.from ≡ true = sym c.is_date.ensures ∙ c.if-not-is_date.false in
+    let ends : is_date c.args.to ≡ true = sym c.is_date-2.ensures ∙ c.if-not-is_date-2.false in
+    let span : Span (asked ⟪ctx⟫).args.from (asked ⟪ctx⟫).args.to = spans _ _ starts ends (sym c.is_before.ensures ∙ c.if-is_before.false) in
+    let Rule : DayCountConv → Outcome Float = λ r. by_rule fractions_in_f64 r asked.args.from asked.args.to no_terms in
+    let told : (o : Outcome Float) (r : DayCountConv) → (asked ⟪ctx⟫).args.convention ≡ r → o ≡ (Rule ⟪ctx⟫) r → (o ≡ year_fraction fractions_in_f64 (asked ⟪ctx⟫).args.convention (asked ⟪ctx⟫).args.from (asked ⟪ctx⟫).args.to no_terms) × FractionWithin o (year_fraction fractions_exactly (asked ⟪ctx⟫).args.convention (asked ⟪ctx⟫).args.from (asked ⟪ctx⟫).args.to no_terms) = λ o r t e. promised asked.args.convention asked.args.from asked.args.to no_terms o
+    (e ∙ ap Rule (sym t) ∙ sym (span_fraction fractions_in_f64 asked.args.convention asked.args.from asked.args.to no_terms span (unrolled asked.args.convention))) in
+    told _ conv.D30_360 c.in-D30_360.is (c.unless_zero.ensures.0 ∙ ap (λ (x : Float). unless (not (impossible simple.D30_360 asked.args.from asked.args.to)) 9 (given x)) c.calc_30_360.ensures)
 
 pub returns-in-D30E360 : goal.returns-in-D30E360
 unfolding simple_fraction
-returns-in-D30E360 c = told c.before.before.before.before _ conv.D30E360 c.in-D30E360.is (c.unless_zero-in-D30E360.ensures.1 ∙ ap (λ (x : Float). unless (not (impossible simple.D30E360 (asked c.before.before.before.before).args.from (asked c.before.before.before.before).args.to)) 9 (given x)) c.calc_30_e_360.ensures)
+returns-in-D30E360 c =
+    let asked : tie.Start = begun c in
+    let starts : is_date c.args.from ≡ true = sym c.is_date.ensures ∙ c.if-not-is_date.false in
+    let ends : is_date c.args.to ≡ true = sym c.is_date-2.ensures ∙ c.if-not-is_date-2.false in
+    let span : Span (asked ⟪ctx⟫).args.from (asked ⟪ctx⟫).args.to = spans _ _ starts ends (sym c.is_before.ensures ∙ c.if-is_before.false) in
+    let Rule : DayCountConv → Outcome Float = λ r. by_rule fractions_in_f64 r asked.args.from asked.args.to no_terms in
+    let told : (o : Outcome Float) (r : DayCountConv) → (asked ⟪ctx⟫).args.convention ≡ r → o ≡ (Rule ⟪ctx⟫) r → (o ≡ year_fraction fractions_in_f64 (asked ⟪ctx⟫).args.convention (asked ⟪ctx⟫).args.from (asked ⟪ctx⟫).args.to no_terms) × FractionWithin o (year_fraction fractions_exactly (asked ⟪ctx⟫).args.convention (asked ⟪ctx⟫).args.from (asked ⟪ctx⟫).args.to no_terms) = λ o r t e. promised asked.args.convention asked.args.from asked.args.to no_terms o
+    (e ∙ ap Rule (sym t) ∙ sym (span_fraction fractions_in_f64 asked.args.convention asked.args.from asked.args.to no_terms span (unrolled asked.args.convention))) in
+    told _ conv.D30E360 c.in-D30E360.is (c.unless_zero-in-D30E360.ensures.1 ∙ ap (λ (x : Float). unless (not (impossible simple.D30E360 asked.args.from asked.args.to)) 9 (given x)) c.calc_30_e_360.ensures)
 
 pub returns-in-ActActICMA : goal.returns-in-ActActICMA
-returns-in-ActActICMA c = told c.before.before _ conv.ActActICMA c.in-ActActICMA.is refl
+returns-in-ActActICMA c =
+    let asked : tie.Start = begun c in
+    let starts : is_date c.args.from ≡ true = sym c.is_date.ensures ∙ c.if-not-is_date.false in
+    let ends : is_date c.args.to ≡ true = sym c.is_date-2.ensures ∙ c.if-not-is_date-2.false in
+    let span : Span (asked ⟪ctx⟫).args.from (asked ⟪ctx⟫).args.to = spans _ _ starts ends (sym c.is_before.ensures ∙ c.if-is_before.false) in
+    let Rule : DayCountConv → Outcome Float = λ r. by_rule fractions_in_f64 r asked.args.from asked.args.to no_terms in
+    let told : (o : Outcome Float) (r : DayCountConv) → (asked ⟪ctx⟫).args.convention ≡ r → o ≡ (Rule ⟪ctx⟫) r → (o ≡ year_fraction fractions_in_f64 (asked ⟪ctx⟫).args.convention (asked ⟪ctx⟫).args.from (asked ⟪ctx⟫).args.to no_terms) × FractionWithin o (year_fraction fractions_exactly (asked ⟪ctx⟫).args.convention (asked ⟪ctx⟫).args.from (asked ⟪ctx⟫).args.to no_terms) = λ o r t e. promised asked.args.convention asked.args.from asked.args.to no_terms o
+    (e ∙ ap Rule (sym t) ∙ sym (span_fraction fractions_in_f64 asked.args.convention asked.args.from asked.args.to no_terms span (unrolled asked.args.convention))) in
+    told _ conv.ActActICMA c.in-ActActICMA.is refl

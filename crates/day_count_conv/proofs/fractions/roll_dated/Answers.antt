@@ -5,6 +5,4 @@ use Rattle.day_count_conv.specs.declared.conventions.DayCountConv.{DayCountConv}
 use Rattle.day_count_conv.proofs.fractions.roll_dated.Goals as goal
 
 pub returns-in-Date : goal.returns-in-Date
-returns-in-Date c =
-    let s : tie.Start = c.before.before.before.before.before.before in
-    c.is_date.ensures ∙ ap roll_date_exists (sym c.in-Date.is) ∙ ap (λ (r : DayCountConv). roll_dated r s.args.x.roll) (sym c.in-ActActICMA.is)
+returns-in-Date c = c.is_date.ensures ∙ ap roll_date_exists (sym c.in-Date.is) ∙ ap (λ (r : DayCountConv). roll_dated r c.args.x.roll) (sym c.in-ActActICMA.is)

@@ -8,12 +8,10 @@ use Rattle.day_count_conv.proofs.conventions.Whole.{whole_is}
 use Rattle.day_count_conv.proofs.judged.fraction_of_period.Goals as goal
 
 pub returns-in-ActActICMA : goal.returns-in-ActActICMA
-returns-in-ActActICMA c =
-    let s : tie.Start = c.before.before.before in
-    c.whole_period.ensures ∙ whole_is s.args.p s.args.from s.args.to s.requires.0.first s.requires.1 ∙ ap (λ (r : DayCountConv). by_rule fractions_in_f64 r s.args.from s.args.to (rolled_from s.args.from s.args.p)) (sym c.in-ActActICMA.is)
+returns-in-ActActICMA c = c.whole_period.ensures ∙ whole_is c.args.p c.args.from c.args.to c.requires.0.first c.requires.1 ∙ ap (λ (r : DayCountConv). by_rule fractions_in_f64 r c.args.from c.args.to (rolled_from c.args.from c.args.p)) (sym c.in-ActActICMA.is)
 
 pub fraction_judged-requires : goal.fraction_judged-requires
-fraction_judged-requires c = let s : tie.Start = c.before.before in (s.requires.0, rw c.rolled_from-terms.ensures (roll_dated_lem s.args.convention s.args.from s.requires.0.first))
+fraction_judged-requires c = (c.requires.0, rw c.rolled_from-terms.ensures (roll_dated_lem c.args.convention c.args.from c.requires.0.first))
 
 pub returns : goal.returns
 returns c = rw c.rolled_from-terms.ensures at c.fraction_judged.ensures

@@ -11,22 +11,15 @@ use Rattle.flow_text.proofs.amount.Lengths.{decimal_long}
 use Rattle.flow_text.proofs.amount.amount_length.Goals as goal
 
 pub returns-then-not-is_currency : goal.returns-then-not-is_currency
-returns-then-not-is_currency c =
-    let start : tie.Start = c.before.before.before.before.before.before in
-    amount_no_currency start.args.x start.args.currency _ (ap length_outcome (sym c.in-Length.is) ∙ c.decimal_length.ensures) (sym c.is_currency.ensures ∙ c.if-not-is_currency.true)
+returns-then-not-is_currency c = amount_no_currency c.args.x c.args.currency _ (ap length_outcome (sym c.in-Length.is) ∙ c.decimal_length.ensures) (sym c.is_currency.ensures ∙ c.if-not-is_currency.true)
 
 pub overflow_add-result : goal.overflow_add-result
 overflow_add-result c =
-    let start : tie.Start = c.before.before.before.before.before.before in
-    let p = given-finite start.args.x _ (ap length_outcome (sym c.in-Length.is) ∙ c.decimal_length.ensures) in
-    omega (arith, p.1, decimal_long start.args.x (subst T (sym start.well_formed.0.1) tt) p.0)
+    let p = given-finite c.args.x _ (ap length_outcome (sym c.in-Length.is) ∙ c.decimal_length.ensures) in
+    omega (arith, p.1, decimal_long c.args.x (subst T (sym c.well_formed.0.1) tt) p.0)
 
 pub returns-else-not-is_currency : goal.returns-else-not-is_currency
-returns-else-not-is_currency c =
-    let start : tie.Start = c.before.before.before.before.before.before in
-    amount_length_given start.args.x start.args.currency _ (ap length_outcome (sym c.in-Length.is) ∙ c.decimal_length.ensures) (sym c.is_currency.ensures ∙ c.if-not-is_currency.false)
+returns-else-not-is_currency c = amount_length_given c.args.x c.args.currency _ (ap length_outcome (sym c.in-Length.is) ∙ c.decimal_length.ensures) (sym c.is_currency.ensures ∙ c.if-not-is_currency.false)
 
 pub returns-in-Refused : goal.returns-in-Refused
-returns-in-Refused c =
-    let start : tie.Start = c.before.before.before.before in
-    amount_not_finite start.args.x start.args.currency _ (ap length_outcome (sym c.in-Refused.is) ∙ c.decimal_length.ensures)
+returns-in-Refused c = amount_not_finite c.args.x c.args.currency _ (ap length_outcome (sym c.in-Refused.is) ∙ c.decimal_length.ensures)

@@ -12,25 +12,20 @@ use Rattle.flow_text.proofs.amount.write_amount.Goals as goal
 
 pub returns-then-out-k : goal.returns-then-out-k
 returns-then-out-k c =
-    let start : tie.Start = c.before.before.before.before.before.before in
-    let p = passed_given length (amount_shown start.args.x start.args.currency) _ (sym (ap length_outcome (sym c.in-Length.is) ∙ c.amount_length.ensures)) in
-    writes_short (amount_shown start.args.x start.args.currency) start.args.out.now p.0 p.1 (omega (arith, p.2, c.if-out-k.true))
+    let p = passed_given length (amount_shown c.args.x c.args.currency) _ (sym (ap length_outcome (sym c.in-Length.is) ∙ c.amount_length.ensures)) in
+    writes_short (amount_shown c.args.x c.args.currency) c.args.out.now p.0 p.1 (omega (arith, p.2, c.if-out-k.true))
 
 pub put_amount_at-requires : goal.put_amount_at-requires
 put_amount_at-requires c =
-    let start : tie.Start = c.before.before.before.before.before.before.before in
-    let p = passed_given length (amount_shown start.args.x start.args.currency) _ (sym (ap length_outcome (sym c.in-Length.is) ∙ c.amount_length.ensures)) in
-    let was = amount_was start.args.x start.args.currency p.0 p.1 in
+    let p = passed_given length (amount_shown c.args.x c.args.currency) _ (sym (ap length_outcome (sym c.in-Length.is) ∙ c.amount_length.ensures)) in
+    let was = amount_was c.args.x c.args.currency p.0 p.1 in
     (was.0, rw was.2 (omega (arith, p.2, c.if-out-k.false)))
 
 pub returns-else-out-k : goal.returns-else-out-k
 returns-else-out-k c =
-    let start : tie.Start = c.before.before.before.before.before.before.before.before.before.before in
-    let p = passed_given length (amount_shown start.args.x start.args.currency) _ (sym (ap length_outcome (sym c.in-Length.is) ∙ c.amount_length.ensures)) in
-    let was = amount_was start.args.x start.args.currency p.0 p.1 in
-    writes_all (amount_shown start.args.x start.args.currency) start.args.out.now p.0 _ _ p.1 (wrote_is _ _ _ _ _ _ c.put_amount_at.ensures was.2) (omega (arith, p.2, c.if-out-k.false))
+    let p = passed_given length (amount_shown c.args.x c.args.currency) _ (sym (ap length_outcome (sym c.in-Length.is) ∙ c.amount_length.ensures)) in
+    let was = amount_was c.args.x c.args.currency p.0 p.1 in
+    writes_all (amount_shown c.args.x c.args.currency) c.args.out.now p.0 _ _ p.1 (wrote_is _ _ _ _ _ _ c.put_amount_at.ensures was.2) (omega (arith, p.2, c.if-out-k.false))
 
 pub returns-in-Refused : goal.returns-in-Refused
-returns-in-Refused c =
-    let start : tie.Start = c.before.before.before.before.before in
-    writes_none (amount_shown start.args.x start.args.currency) start.args.out.now _ (passed_refused length (amount_shown start.args.x start.args.currency) _ (sym (ap length_outcome (sym c.in-Refused.is) ∙ c.amount_length.ensures)))
+returns-in-Refused c = writes_none (amount_shown c.args.x c.args.currency) c.args.out.now _ (passed_refused length (amount_shown c.args.x c.args.currency) _ (sym (ap length_outcome (sym c.in-Refused.is) ∙ c.amount_length.ensures)))

@@ -5,13 +5,7 @@ use Rattle.number_text.proofs.write.Putting.{wrote_then}
 use Rattle.flow_text.proofs.date.put_month_and_day.Goals as goal
 
 pub put_two-requires : goal.put_two-requires
-put_two-requires c =
-    let start : tie.Start = c.before.before.before.before.before.before in
-    let month : tie.After-put-two = c.before.before.before in
-    omega (arith, start.requires, month.put_two.ensures.1, month.put_two.auto.1.0, length_digits 2 start.args.t.month)
+put_two-requires c = omega (arith, c.requires, c.put_two-next.ensures.1, c.put_two-next.auto.1.0, length_digits 2 c.args.t.month)
 
 pub returns : goal.returns
-returns c =
-    let start : tie.Start = c.before.before.before.before.before.before.before.before.before in
-    let month : tie.After-put-two = c.before.before.before.before.before.before in
-    wrote_then _ _ _ _ _ _ _ _ month.put_two.ensures c.put_two.ensures (omega (arith, start.requires, length_digits 2 start.args.t.month, length_digits 2 start.args.t.day))
+returns c = wrote_then _ _ _ _ _ _ _ _ c.put_two-next.ensures c.put_two.ensures (omega (arith, c.requires, length_digits 2 c.args.t.month, length_digits 2 c.args.t.day))

@@ -7,14 +7,10 @@ use Rattle.number_text.proofs.write.Putting.{wrote_one, wrote_then}
 use Rattle.flow_text.proofs.date.put_two.Goals as goal
 
 pub put_digits-requires : goal.put_digits-requires
-put_digits-requires c =
-    let start : tie.Start = c.before.before in
-    simp length-set (omega (arith, start.requires))
+put_digits-requires c = simp length-set (omega (arith, c.requires))
 
 pub shape_of-out : goal.shape_of-out
 shape_of-out c = c.put_digits.auto.1.1.0 ∙ simp length-set
 
 pub returns : goal.returns
-returns c =
-    let start : tie.Start = c.before.before.before.before.before in
-    wrote_then _ _ _ _ _ _ _ _ (wrote_one start.args.out.now start.args.at 45 (omega (arith, start.requires))) c.put_digits.ensures (omega (arith, start.requires, length_digits 2 start.args.n))
+returns c = wrote_then _ _ _ _ _ _ _ _ (wrote_one c.args.out.now c.args.at 45 (omega (arith, c.requires))) c.put_digits.ensures (omega (arith, c.requires, length_digits 2 c.args.n))

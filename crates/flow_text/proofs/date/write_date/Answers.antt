@@ -7,24 +7,19 @@ use Rattle.flow_text.proofs.date.Dates.{date-given, date-refused, date_long}
 use Rattle.flow_text.proofs.date.write_date.Goals as goal
 
 pub returns-then-not-is_date : goal.returns-then-not-is_date
-returns-then-not-is_date c =
-    let start : tie.Start = c.before.before.before in
-    writes_none (date_shown start.args.t) start.args.out.now 1 (date-refused start.args.t (sym c.is_date.ensures ∙ c.if-not-is_date.true))
+returns-then-not-is_date c = writes_none (date_shown c.args.t) c.args.out.now 1 (date-refused c.args.t (sym c.is_date.ensures ∙ c.if-not-is_date.true))
 
 pub returns-then-out-lt-DATE_LENGTH : goal.returns-then-out-lt-DATE_LENGTH
 returns-then-out-lt-DATE_LENGTH c =
-    let start : tie.Start = c.before.before.before.before in
     let is = sym c.is_date.ensures ∙ c.if-not-is_date.false in
-    writes_short (date_shown start.args.t) start.args.out.now (date_text start.args.t) (date-given start.args.t is) (omega (arith, date_long start.args.t is, c.if-out-lt-DATE_LENGTH.true))
+    writes_short (date_shown c.args.t) c.args.out.now (date_text c.args.t) (date-given c.args.t is) (omega (arith, date_long c.args.t is, c.if-out-lt-DATE_LENGTH.true))
 
 pub put_date_at-requires : goal.put_date_at-requires
 put_date_at-requires c =
-    let start : tie.Start = c.before.before.before.before.before in
     let is = sym c.is_date.ensures ∙ c.if-not-is_date.false in
-    (is, omega (arith, date_long start.args.t is, c.if-out-lt-DATE_LENGTH.false))
+    (is, omega (arith, date_long c.args.t is, c.if-out-lt-DATE_LENGTH.false))
 
 pub returns : goal.returns
 returns c =
-    let start : tie.Start = c.before.before.before.before.before.before.before.before in
     let is = sym c.is_date.ensures ∙ c.if-not-is_date.false in
-    writes_all (date_shown start.args.t) start.args.out.now (date_text start.args.t) _ _ (date-given start.args.t is) c.put_date_at.ensures (omega (arith, date_long start.args.t is, c.if-out-lt-DATE_LENGTH.false))
+    writes_all (date_shown c.args.t) c.args.out.now (date_text c.args.t) _ _ (date-given c.args.t is) c.put_date_at.ensures (omega (arith, date_long c.args.t is, c.if-out-lt-DATE_LENGTH.false))

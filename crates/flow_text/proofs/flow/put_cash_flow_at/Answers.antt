@@ -6,19 +6,11 @@ use Rattle.flow_text.proofs.flow.Lengths.{flow_parts}
 use Rattle.flow_text.proofs.flow.put_cash_flow_at.Goals as goal
 
 pub put_date_at-next-requires : goal.put_date_at-next-requires
-put_date_at-next-requires c =
-    let start : tie.Start = c.before.before in
-    (start.requires.0.1, omega (arith, start.requires.1, flow_parts start.args.flow))
+put_date_at-next-requires c = (c.requires.0.1, omega (arith, c.requires.1, flow_parts c.args.flow))
 
 pub put_behind-requires : goal.put_behind-requires
-put_behind-requires c =
-    let start : tie.Start = c.before.before.before.before.before.before in
-    let date : tie.After-put-date-at = c.before.before.before in
-    (start.requires.0.0, omega (arith, start.requires.1, flow_parts start.args.flow, date.put-date-at.ensures.1, date.put-date-at.auto.1.0))
+put_behind-requires c = (c.requires.0.0, omega (arith, c.requires.1, flow_parts c.args.flow, c.put_date_at-next.ensures.1, c.put_date_at-next.auto.1.0))
 
 pub returns : goal.returns
 unfolding flow_text
-returns c =
-    let start : tie.Start = c.before.before.before.before.before.before.before.before.before in
-    let date : tie.After-put-date-at = c.before.before.before.before.before.before in
-    wrote_then _ _ _ _ _ _ _ _ date.put-date-at.ensures c.put_behind.ensures (omega (arith, start.requires.1, flow_parts start.args.flow))
+returns c = wrote_then _ _ _ _ _ _ _ _ c.put_date_at-next.ensures c.put_behind.ensures (omega (arith, c.requires.1, flow_parts c.args.flow))

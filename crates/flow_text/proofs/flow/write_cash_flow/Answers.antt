@@ -13,25 +13,20 @@ use Rattle.flow_text.proofs.flow.write_cash_flow.Goals as goal
 
 pub returns-then-out-k : goal.returns-then-out-k
 returns-then-out-k c =
-    let start : tie.Start = c.before.before.before.before.before.before in
-    let p = passed_given length (flow_shown start.args.flow) _ (sym (ap length_outcome (sym c.in-Length.is) ∙ c.cash_flow_length.ensures)) in
-    writes_short (flow_shown start.args.flow) start.args.out.now p.0 p.1 (omega (arith, p.2, c.if-out-k.true))
+    let p = passed_given length (flow_shown c.args.flow) _ (sym (ap length_outcome (sym c.in-Length.is) ∙ c.cash_flow_length.ensures)) in
+    writes_short (flow_shown c.args.flow) c.args.out.now p.0 p.1 (omega (arith, p.2, c.if-out-k.true))
 
 pub put_cash_flow_at-requires : goal.put_cash_flow_at-requires
 put_cash_flow_at-requires c =
-    let start : tie.Start = c.before.before.before.before.before.before.before in
-    let p = passed_given length (flow_shown start.args.flow) _ (sym (ap length_outcome (sym c.in-Length.is) ∙ c.cash_flow_length.ensures)) in
-    let was = flow_was start.args.flow p.0 p.1 in
+    let p = passed_given length (flow_shown c.args.flow) _ (sym (ap length_outcome (sym c.in-Length.is) ∙ c.cash_flow_length.ensures)) in
+    let was = flow_was c.args.flow p.0 p.1 in
     ((was.0, was.1), rw was.2 (omega (arith, p.2, c.if-out-k.false)))
 
 pub returns-else-out-k : goal.returns-else-out-k
 returns-else-out-k c =
-    let start : tie.Start = c.before.before.before.before.before.before.before.before.before.before in
-    let p = passed_given length (flow_shown start.args.flow) _ (sym (ap length_outcome (sym c.in-Length.is) ∙ c.cash_flow_length.ensures)) in
-    let was = flow_was start.args.flow p.0 p.1 in
-    writes_all (flow_shown start.args.flow) start.args.out.now p.0 _ _ p.1 (wrote_is _ _ _ _ _ _ c.put_cash_flow_at.ensures was.2) (omega (arith, p.2, c.if-out-k.false))
+    let p = passed_given length (flow_shown c.args.flow) _ (sym (ap length_outcome (sym c.in-Length.is) ∙ c.cash_flow_length.ensures)) in
+    let was = flow_was c.args.flow p.0 p.1 in
+    writes_all (flow_shown c.args.flow) c.args.out.now p.0 _ _ p.1 (wrote_is _ _ _ _ _ _ c.put_cash_flow_at.ensures was.2) (omega (arith, p.2, c.if-out-k.false))
 
 pub returns-in-Refused : goal.returns-in-Refused
-returns-in-Refused c =
-    let start : tie.Start = c.before.before.before.before.before in
-    writes_none (flow_shown start.args.flow) start.args.out.now _ (passed_refused length (flow_shown start.args.flow) _ (sym (ap length_outcome (sym c.in-Refused.is) ∙ c.cash_flow_length.ensures)))
+returns-in-Refused c = writes_none (flow_shown c.args.flow) c.args.out.now _ (passed_refused length (flow_shown c.args.flow) _ (sym (ap length_outcome (sym c.in-Refused.is) ∙ c.cash_flow_length.ensures)))

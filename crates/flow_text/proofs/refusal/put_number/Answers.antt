@@ -11,18 +11,13 @@ pub put_decimal-end-requires : goal.put_decimal-end-requires
 put_decimal-end-requires c = omega (arith, c.requires, number_long c.args.n)
 
 pub bounds-out-end : goal.bounds-out-end
-bounds-out-end c =
-    let s : tie.Start = c.before.before.before.before.before in
-    omega (arith, s.requires, number_long s.args.n, c.put_decimal-end.ensures.1, c.put_decimal-end.auto.1.0)
+bounds-out-end c = omega (arith, c.requires, number_long c.args.n, c.put_decimal-end.ensures.1, c.put_decimal-end.auto.1.0)
 
 pub overflow_add-result : goal.overflow_add-result
-overflow_add-result c =
-    let s : tie.Start = c.before.before.before.before.before in
-    omega (arith, s.requires, number_long s.args.n, c.put_decimal-end.ensures.1)
+overflow_add-result c = omega (arith, c.requires, number_long c.args.n, c.put_decimal-end.ensures.1)
 
 pub returns : goal.returns
 unfolding number_text
 returns c =
-    let s : tie.Start = c.before.before.before.before.before in
-    let room : c.put_decimal-end.result < length c.put_decimal-end.new.1.0 = omega (arith, s.requires, number_long s.args.n, c.put_decimal-end.ensures.1, c.put_decimal-end.auto.1.0) in
-    wrote_then _ _ _ _ _ _ _ _ c.put_decimal-end.ensures (wrote_one _ c.put_decimal-end.result 10 room) (omega (arith, s.requires, number_long s.args.n))
+    let room : c.put_decimal-end.result < length c.put_decimal-end.new.1.0 = omega (arith, c.requires, number_long c.args.n, c.put_decimal-end.ensures.1, c.put_decimal-end.auto.1.0) in
+    wrote_then _ _ _ _ _ _ _ _ c.put_decimal-end.ensures (wrote_one _ c.put_decimal-end.result 10 room) (omega (arith, c.requires, number_long c.args.n))

@@ -6,15 +6,11 @@ use Rattle.flow_text.proofs.refusal.Refusals.{number_long, refusal_long}
 use Rattle.flow_text.proofs.refusal.put_refusal.Goals as goal
 
 pub put_bytes-at-requires : goal.put_bytes-at-requires
-put_bytes-at-requires c = let s : tie.Start = c.before.before.before in omega (arith, s.requires, refusal_long s.args.n)
+put_bytes-at-requires c = omega (arith, c.requires, refusal_long c.args.n)
 
 pub put_number-requires : goal.put_number-requires
-put_number-requires c =
-    let s : tie.Start = c.before.before.before.before.before.before.before in
-    omega (arith, s.requires, refusal_long s.args.n, number_long s.args.n, c.put_bytes-at.ensures.1, c.put_bytes-at.auto.1.0)
+put_number-requires c = omega (arith, c.requires, refusal_long c.args.n, number_long c.args.n, c.put_bytes-at.ensures.1, c.put_bytes-at.auto.1.0)
 
 pub returns : goal.returns
 unfolding refused_text
-returns c =
-    let s : tie.Start = c.before.before.before.before.before.before.before.before.before.before in
-    wrote_then _ _ _ _ _ _ _ _ c.put_bytes-at.ensures c.put_number.ensures (omega (arith, s.requires, refusal_long s.args.n, number_long s.args.n))
+returns c = wrote_then _ _ _ _ _ _ _ _ c.put_bytes-at.ensures c.put_number.ensures (omega (arith, c.requires, refusal_long c.args.n, number_long c.args.n))

@@ -10,16 +10,10 @@ pub overflow_add-decimal_length : goal.overflow_add-decimal_length
 overflow_add-decimal_length c = omega (arith, c.decimal_length.ensures, decimal_within 10 c.args.n (omega arith) (omega arith))
 
 pub returns-then-out-decimal_length : goal.returns-then-out-decimal_length
-returns-then-out-decimal_length c =
-    let s : tie.Start = c.before.before.before in
-    (written_refused _ (refused_text s.args.n) (omega (arith, c.decimal_length.ensures, refusal_long s.args.n)), refusal_short s.args.n (omega arith))
+returns-then-out-decimal_length c = (written_refused _ (refused_text c.args.n) (omega (arith, c.decimal_length.ensures, refusal_long c.args.n)), refusal_short c.args.n (omega arith))
 
 pub put_refusal-requires : goal.put_refusal-requires
-put_refusal-requires c =
-    let s : tie.Start = c.before.before.before.before in
-    omega (arith, c.decimal_length.ensures, refusal_long s.args.n, c.if-out-decimal_length.false)
+put_refusal-requires c = omega (arith, c.decimal_length.ensures, refusal_long c.args.n, c.if-out-decimal_length.false)
 
 pub returns : goal.returns
-returns c =
-    let s : tie.Start = c.before.before.before.before.before.before.before in
-    (written_fits _ _ (refused_text s.args.n) _ c.put_refusal.ensures (omega (arith, c.decimal_length.ensures, refusal_long s.args.n, c.if-out-decimal_length.false)), refusal_short s.args.n (omega arith))
+returns c = (written_fits _ _ (refused_text c.args.n) _ c.put_refusal.ensures (omega (arith, c.decimal_length.ensures, refusal_long c.args.n, c.if-out-decimal_length.false)), refusal_short c.args.n (omega arith))

@@ -15,17 +15,9 @@ use Rattle.icma.specs.declared.parts.Broken.{Broken}
 use Rattle.time_period.proofs.steps.Steps.{step-later}
 use Rattle.icma.proofs.parts.Steps.{gap_kept}
 use Rattle.icma.proofs.parts.first_part.Goals as goal
-use Rattle.icma.proofs.parts.first_part.Goals.{Else-not-is_before, In-Date-2}
 
 abbrev shown : Date → Date → Date → Outcome Broken
 shown start b u = given (Part (pos (day_number u) -ℤ pos (day_number start)) (day_number u - day_number b))
-
--- where the step led, and that the walk went past
-led : (c : In-Date-2) → step c.args.p c.args.b ≡ given c.in-Date.u
-led c = sym c.step.ensures ∙ ap date_outcome c.in-Date.is
-
-cut : (c : Else-not-is_before) → is_before c.args.b c.args.start ≡ true
-cut c = sym c.is_before.ensures ∙ c.if-not-is_before.false
 
 pub returns-then-not-is_before : goal.returns-then-not-is_before
 unfolding first_part
@@ -33,26 +25,27 @@ returns-then-not-is_before c = rw (sym c.is_before.ensures ∙ c.if-not-is_befor
 
 pub gap-days-requires : goal.gap-days-requires
 gap-days-requires c =
-    let s : tie.Start = c.before.before.before.before.before.before in
-    let k = step-later s.args.p s.args.b c.in-Date.u s.requires.1 s.requires.2 (led c.before) in
-    (k.0, s.requires.0)
+    let led : step c.args.p c.args.b ≡ given c.in-Date.u = sym c.step.ensures ∙ ap date_outcome c.in-Date.is in
+    let k = step-later c.args.p c.args.b c.in-Date.u c.requires.1 c.requires.2 led in
+    (k.0, c.requires.0)
 
 pub length-requires : goal.length-requires
 length-requires c =
-    let s : tie.Start = c.before.before.before.before.before.before.before in
-    let k = step-later s.args.p s.args.b c.in-Date.u s.requires.1 s.requires.2 (led c.before.before) in
-    (s.requires.1, k.0, omega (arith, k.1))
+    let led : step c.args.p c.args.b ≡ given c.in-Date.u = sym c.step.ensures ∙ ap date_outcome c.in-Date.is in
+    let k = step-later c.args.p c.args.b c.in-Date.u c.requires.1 c.requires.2 led in
+    (c.requires.1, k.0, omega (arith, k.1))
 
 pub returns-in-Date : goal.returns-in-Date
 unfolding first_part
 returns-in-Date c =
-    let s : tie.Start = c.before.before.before.before.before.before.before.before in
+    let led : step c.args.p c.args.b ≡ given c.in-Date.u = sym c.step.ensures ∙ ap date_outcome c.in-Date.is in
+    let cut : is_before c.args.b c.args.start ≡ true = sym c.is_before.ensures ∙ c.if-not-is_before.false in
     let v = c.in-Date.u in
-    let k = step-later s.args.p s.args.b v s.requires.1 s.requires.2 (led c.before.before.before) in
-    rw (cut c.before.before.before.before.before.before) (ap₂ {C = Outcome Broken} (λ (x : ℤ) (y : ℕ). given (Part x y)) (gap_kept v s.args.start c.gap-days.result k.0 s.requires.0 c.gap-days.ensures) c.length.ensures ∙ sym (ap (λ (o : Outcome Date). and_then o (shown s.args.start s.args.b)) (led c.before.before.before)))
+    let k = step-later c.args.p c.args.b v c.requires.1 c.requires.2 led in
+    rw cut (ap₂ {C = Outcome Broken} (λ (x : ℤ) (y : ℕ). given (Part x y)) (gap_kept v c.args.start c.gap-days.result k.0 c.requires.0 c.gap-days.ensures) c.length.ensures ∙ sym (ap (λ (o : Outcome Date). and_then o (shown c.args.start c.args.b)) led))
 
 pub returns-in-Refused : goal.returns-in-Refused
 unfolding first_part
 returns-in-Refused c =
-    let s : tie.Start = c.before.before.before.before.before.before in
-    rw (cut c.before.before.before.before) (sym (ap (λ (o : Outcome Date). and_then o (shown s.args.start s.args.b)) (sym c.step.ensures ∙ ap date_outcome c.in-Refused.is)))
+    let cut : is_before c.args.b c.args.start ≡ true = sym c.is_before.ensures ∙ c.if-not-is_before.false in
+    rw cut (sym (ap (λ (o : Outcome Date). and_then o (shown c.args.start c.args.b)) (sym c.step.ensures ∙ ap date_outcome c.in-Refused.is)))

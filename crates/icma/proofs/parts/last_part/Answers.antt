@@ -15,17 +15,9 @@ use Rattle.icma.specs.declared.parts.Broken.{Broken}
 use Rattle.time_period.proofs.steps.Steps.{step_earlier}
 use Rattle.icma.proofs.parts.Steps.{gap_kept}
 use Rattle.icma.proofs.parts.last_part.Goals as goal
-use Rattle.icma.proofs.parts.last_part.Goals.{Else-not-is_before, In-Date-2}
 
 abbrev shown : Date → Date → Date → Outcome Broken
 shown end e s = given (Part (pos (day_number end) -ℤ pos (day_number s)) (day_number e - day_number s))
-
--- where the step led, and that the walk went past
-led : (c : In-Date-2) → step c.args.q c.args.e ≡ given c.in-Date.s
-led c = sym c.step.ensures ∙ ap date_outcome c.in-Date.is
-
-cut : (c : Else-not-is_before) → is_before c.args.end c.args.e ≡ true
-cut c = sym c.is_before.ensures ∙ c.if-not-is_before.false
 
 pub returns-then-not-is_before : goal.returns-then-not-is_before
 unfolding last_part
@@ -33,26 +25,27 @@ returns-then-not-is_before c = rw (sym c.is_before.ensures ∙ c.if-not-is_befor
 
 pub gap-days-requires : goal.gap-days-requires
 gap-days-requires c =
-    let s : tie.Start = c.before.before.before.before.before.before in
-    let k = step_earlier s.args.q s.args.e c.in-Date.s s.requires.1 s.requires.2 (led c.before) in
-    (s.requires.0, k.0)
+    let led : step c.args.q c.args.e ≡ given c.in-Date.s = sym c.step.ensures ∙ ap date_outcome c.in-Date.is in
+    let k = step_earlier c.args.q c.args.e c.in-Date.s c.requires.1 c.requires.2 led in
+    (c.requires.0, k.0)
 
 pub length-requires : goal.length-requires
 length-requires c =
-    let s : tie.Start = c.before.before.before.before.before.before.before in
-    let k = step_earlier s.args.q s.args.e c.in-Date.s s.requires.1 s.requires.2 (led c.before.before) in
-    (k.0, s.requires.1, omega (arith, k.1))
+    let led : step c.args.q c.args.e ≡ given c.in-Date.s = sym c.step.ensures ∙ ap date_outcome c.in-Date.is in
+    let k = step_earlier c.args.q c.args.e c.in-Date.s c.requires.1 c.requires.2 led in
+    (k.0, c.requires.1, omega (arith, k.1))
 
 pub returns-in-Date : goal.returns-in-Date
 unfolding last_part
 returns-in-Date c =
-    let s : tie.Start = c.before.before.before.before.before.before.before.before in
+    let led : step c.args.q c.args.e ≡ given c.in-Date.s = sym c.step.ensures ∙ ap date_outcome c.in-Date.is in
+    let cut : is_before c.args.end c.args.e ≡ true = sym c.is_before.ensures ∙ c.if-not-is_before.false in
     let v = c.in-Date.s in
-    let k = step_earlier s.args.q s.args.e v s.requires.1 s.requires.2 (led c.before.before.before) in
-    rw (cut c.before.before.before.before.before.before) (ap₂ {C = Outcome Broken} (λ (x : ℤ) (y : ℕ). given (Part x y)) (gap_kept s.args.end v c.gap-days.result s.requires.0 k.0 c.gap-days.ensures) c.length.ensures ∙ sym (ap (λ (o : Outcome Date). and_then o (shown s.args.end s.args.e)) (led c.before.before.before)))
+    let k = step_earlier c.args.q c.args.e v c.requires.1 c.requires.2 led in
+    rw cut (ap₂ {C = Outcome Broken} (λ (x : ℤ) (y : ℕ). given (Part x y)) (gap_kept c.args.end v c.gap-days.result c.requires.0 k.0 c.gap-days.ensures) c.length.ensures ∙ sym (ap (λ (o : Outcome Date). and_then o (shown c.args.end c.args.e)) led))
 
 pub returns-in-Refused : goal.returns-in-Refused
 unfolding last_part
 returns-in-Refused c =
-    let s : tie.Start = c.before.before.before.before.before.before in
-    rw (cut c.before.before.before.before) (sym (ap (λ (o : Outcome Date). and_then o (shown s.args.end s.args.e)) (sym c.step.ensures ∙ ap date_outcome c.in-Refused.is)))
+    let cut : is_before c.args.end c.args.e ≡ true = sym c.is_before.ensures ∙ c.if-not-is_before.false in
+    rw cut (sym (ap (λ (o : Outcome Date). and_then o (shown c.args.end c.args.e)) (sym c.step.ensures ∙ ap date_outcome c.in-Refused.is)))

@@ -11,29 +11,22 @@ use Rattle.icma.specs.declared.parts.Parts.TheVariants.{Short}
 use Rattle.icma.specs.declared.parts.Parts.{Parts}
 use Rattle.time_period.proofs.steps.Steps.{step-later}
 use Rattle.icma.proofs.parts.short_parts.Goals as goal
-use Rattle.icma.proofs.parts.short_parts.Goals.{In-Date-2}
 
 abbrev shown : Date → Date → Date → Date → Outcome Parts
 shown start end base u = given (Short (day_number end - day_number start) (day_number u - day_number base))
 
--- where the step led
-led : (c : In-Date-2) → step c.args.p c.args.base ≡ given c.in-Date.u
-led c = sym c.step.ensures ∙ ap date_outcome c.in-Date.is
-
 pub length-requires : goal.length-requires
 length-requires c =
-    let s : tie.Start = c.before.before.before.before.before in
-    let k = step-later s.args.p s.args.base c.in-Date.u s.requires.3 s.requires.4 (led c.before.before) in
-    (s.requires.3, k.0, omega (arith, k.1))
+    let led : step c.args.p c.args.base ≡ given c.in-Date.u = sym c.step.ensures ∙ ap date_outcome c.in-Date.is in
+    let k = step-later c.args.p c.args.base c.in-Date.u c.requires.3 c.requires.4 led in
+    (c.requires.3, k.0, omega (arith, k.1))
 
 pub returns-in-Date : goal.returns-in-Date
 unfolding short_parts
 returns-in-Date c =
-    let s : tie.Start = c.before.before.before.before.before.before in
-    ap₂ {C = Outcome Parts} (λ (x y : ℕ). given (Short x y)) c.length-days.ensures c.length.ensures ∙ sym (ap (λ (o : Outcome Date). and_then o (shown s.args.start s.args.end s.args.base)) (led c.before.before.before))
+    let led : step c.args.p c.args.base ≡ given c.in-Date.u = sym c.step.ensures ∙ ap date_outcome c.in-Date.is in
+    ap₂ {C = Outcome Parts} (λ (x y : ℕ). given (Short x y)) c.length-days.ensures c.length.ensures ∙ sym (ap (λ (o : Outcome Date). and_then o (shown c.args.start c.args.end c.args.base)) led)
 
 pub returns-in-Refused : goal.returns-in-Refused
 unfolding short_parts
-returns-in-Refused c =
-    let s : tie.Start = c.before.before.before.before in
-    sym (ap (λ (o : Outcome Date). and_then o (shown s.args.start s.args.end s.args.base)) (sym c.step.ensures ∙ ap date_outcome c.in-Refused.is))
+returns-in-Refused c = sym (ap (λ (o : Outcome Date). and_then o (shown c.args.start c.args.end c.args.base)) (sym c.step.ensures ∙ ap date_outcome c.in-Refused.is))

@@ -7,26 +7,20 @@ use Rattle.icma.specs.parts.Walk.{walk_on, to_last, to_end}
 use Rattle.icma.specs.declared.walks.Walked.{Walked}
 use Rattle.icma.proofs.walks.Walking.{on_ends}
 use Rattle.icma.proofs.parts.to_end.Goals as goal
-use Rattle.icma.proofs.parts.to_end.Goals.{In-Walked-2}
-
-walked : (c : In-Walked-2) → walk_on c.args.p c.args.end c.args.base ≡ given c.in-Walked.e
-unfolding walk_on
-walked c = sym c.walk_on.ensures ∙ ap walk_outcome c.in-Walked.is
 
 pub to_last-requires : goal.to_last-requires
+unfolding walk_on
 to_last-requires c =
-    let s : tie.Start = c.before.before.before.before in
-    let e = on_ends s.args.p s.args.end s.args.base c.in-Walked.e s.requires.1 s.requires.2 (walked c.before) in
-    (s.requires.0, e.0.dated, s.requires.3, s.requires.4, omega (arith, e.0.few))
+    let walked : walk_on c.args.p c.args.end c.args.base ≡ given c.in-Walked.e = sym c.walk_on.ensures ∙ ap walk_outcome c.in-Walked.is in
+    let e = on_ends c.args.p c.args.end c.args.base c.in-Walked.e c.requires.1 c.requires.2 walked in
+    (c.requires.0, e.0.dated, c.requires.3, c.requires.4, omega (arith, e.0.few))
 
 pub returns-in-Walked : goal.returns-in-Walked
-unfolding to_end
+unfolding to_end walk_on
 returns-in-Walked c =
-    let s : tie.Start = c.before.before.before.before.before in
-    c.to_last.ensures ∙ sym (ap (λ (o : Outcome Walked). and_then o (to_last s.args.q s.args.end s.args.first s.args.count)) (walked c.before.before))
+    let walked : walk_on c.args.p c.args.end c.args.base ≡ given c.in-Walked.e = sym c.walk_on.ensures ∙ ap walk_outcome c.in-Walked.is in
+    c.to_last.ensures ∙ sym (ap (λ (o : Outcome Walked). and_then o (to_last c.args.q c.args.end c.args.first c.args.count)) walked)
 
 pub returns-in-Refused : goal.returns-in-Refused
 unfolding to_end walk_on
-returns-in-Refused c =
-    let s : tie.Start = c.before.before.before.before in
-    sym (ap (λ (o : Outcome Walked). and_then o (to_last s.args.q s.args.end s.args.first s.args.count)) (sym c.walk_on.ensures ∙ ap walk_outcome c.in-Refused.is))
+returns-in-Refused c = sym (ap (λ (o : Outcome Walked). and_then o (to_last c.args.q c.args.end c.args.first c.args.count)) (sym c.walk_on.ensures ∙ ap walk_outcome c.in-Refused.is))

@@ -7,12 +7,8 @@ use Rattle.icma.proofs.parts.to_first.Goals as goal
 
 pub returns-in-Broken : goal.returns-in-Broken
 unfolding to_first
-returns-in-Broken c =
-    let s : tie.Start = c.before.before.before.before.before in
-    c.to_end.ensures ∙ sym (ap (λ (o : Outcome Broken). and_then o (to_end s.args.p s.args.q s.args.end s.args.base s.args.b.count)) (sym c.first_part.ensures ∙ ap broken_outcome c.in-Broken.is))
+returns-in-Broken c = c.to_end.ensures ∙ sym (ap (λ (o : Outcome Broken). and_then o (to_end c.args.p c.args.q c.args.end c.args.base c.args.b.count)) (sym c.first_part.ensures ∙ ap broken_outcome c.in-Broken.is))
 
 pub returns-in-Refused : goal.returns-in-Refused
 unfolding to_first
-returns-in-Refused c =
-    let s : tie.Start = c.before.before.before.before in
-    sym (ap (λ (o : Outcome Broken). and_then o (to_end s.args.p s.args.q s.args.end s.args.base s.args.b.count)) (sym c.first_part.ensures ∙ ap broken_outcome c.in-Refused.is))
+returns-in-Refused c = sym (ap (λ (o : Outcome Broken). and_then o (to_end c.args.p c.args.q c.args.end c.args.base c.args.b.count)) (sym c.first_part.ensures ∙ ap broken_outcome c.in-Refused.is))

@@ -14,12 +14,8 @@ whole first count e last = given (Long first last (count + e.count))
 
 pub returns-in-Broken : goal.returns-in-Broken
 unfolding to_last
-returns-in-Broken c =
-    let s : tie.Start = c.before.before.before.before.before in
-    sym (ap (λ (o : Outcome Broken). and_then o (whole s.args.first s.args.count s.args.e)) (sym c.last_part.ensures ∙ ap broken_outcome c.in-Broken.is))
+returns-in-Broken c = sym (ap (λ (o : Outcome Broken). and_then o (whole c.args.first c.args.count c.args.e)) (sym c.last_part.ensures ∙ ap broken_outcome c.in-Broken.is))
 
 pub returns-in-Refused : goal.returns-in-Refused
 unfolding to_last
-returns-in-Refused c =
-    let s : tie.Start = c.before.before.before.before in
-    sym (ap (λ (o : Outcome Broken). and_then o (whole s.args.first s.args.count s.args.e)) (sym c.last_part.ensures ∙ ap broken_outcome c.in-Refused.is))
+returns-in-Refused c = sym (ap (λ (o : Outcome Broken). and_then o (whole c.args.first c.args.count c.args.e)) (sym c.last_part.ensures ∙ ap broken_outcome c.in-Refused.is))

@@ -13,45 +13,46 @@ use Rattle.time_period.specs.declared.steps.TimePeriod.{TimePeriod}
 use Rattle.time_period.proofs.steps.Signs.{positive_not_least, minus_fits, minus_read, negative_back}
 use Rattle.icma.proofs.parts.Steps.{base_ends}
 use Rattle.icma.proofs.parts.walked_parts.Goals as goal
-use Rattle.icma.proofs.parts.walked_parts.Goals.{After-base_from, After-struct_told-1, In-Walked-2}
-
--- the number fits, and the period made of its negative is the negated one
-num-fits : (c : After-struct_told-1) → SFits w32 c.args.p.num
-num-fits c = record { sfits = c.struct_told-1.given.0.1 }
-
-turned : (c : After-struct_told-1) → ◌≡◌ {A = TimePeriod} (record { num = to_z w32 (of_z w32 (pos 0 -ℤ to_z w32 (of_z w32 c.args.p.num))); unit = c.args.p.unit }) (negated c.args.p)
-turned c =
-    let p = c.args.p in
-    ap {B = TimePeriod} (λ (z : ℤ). record { num = z; unit = p.unit }) (minus_read p.num (num-fits c) (positive_not_least p.num c.requires.4))
-
--- the base, as it was found
-found : (c : After-base_from) → base_from c.args.p (negated c.args.p) c.args.start c.args.end c.args.roll ≡ walk_outcome c.base_from.result
-found c =
-    let s = c.args in
-    ap (λ (q : TimePeriod). base_from s.p q s.start s.end s.roll) (sym (turned c.before)) ∙ sym c.base_from.ensures
-
-based : (c : In-Walked-2) → base_from c.args.p (negated c.args.p) c.args.start c.args.end c.args.roll ≡ given c.in-Walked.b
-based c = found c.before.before ∙ ap walk_outcome c.in-Walked.is
 
 pub overflow_sub-q : goal.overflow_sub-q
-overflow_sub-q c = minus_fits c.args.p.num (num-fits c) (positive_not_least c.args.p.num c.requires.4)
+overflow_sub-q c =
+    let num-fits : SFits w32 c.args.p.num = record { sfits = c.struct_told-1.given.0.1 } in
+    minus_fits c.args.p.num num-fits (positive_not_least c.args.p.num c.requires.4)
 
 pub base_from-requires : goal.base_from-requires
-base_from-requires c = (c.requires.0, c.requires.1, c.requires.3, c.requires.4, subst (λ (q : TimePeriod). lt_z q.num (pos 0) ≡ true) (sym (turned c)) (negative_back c.args.p.num c.requires.4))
+base_from-requires c =
+    let num-fits : SFits w32 c.args.p.num = record { sfits = c.struct_told-1.given.0.1 } in
+    let turned : ◌≡◌ {A = TimePeriod} (record { num = to_z w32 (of_z w32 (pos 0 -ℤ to_z w32 (of_z w32 c.args.p.num))); unit = c.args.p.unit }) (negated c.args.p) = let p = c.args.p in
+    ap {B = TimePeriod} (λ (z : ℤ). record { num = z; unit = p.unit }) (minus_read p.num num-fits (positive_not_least p.num c.requires.4)) in
+    (c.requires.0, c.requires.1, c.requires.3, c.requires.4, subst (λ (q : TimePeriod). lt_z q.num (pos 0) ≡ true) (sym turned) (negative_back c.args.p.num c.requires.4))
 
 pub parts_from-requires : goal.parts_from-requires
 parts_from-requires c =
-    let s : tie.Start = c.before.before.before.before.before in
-    (s.requires.0, s.requires.1, s.requires.2, base_ends s.args.p s.args.start s.args.end s.args.roll c.in-Walked.b s.requires.3 s.requires.4 (based c.before), s.requires.4, subst (λ (q : TimePeriod). lt_z q.num (pos 0) ≡ true) (sym (turned c.before.before.before.before)) (negative_back s.args.p.num s.requires.4))
+    let num-fits : SFits w32 c.args.p.num = record { sfits = c.struct_told-1.given.0.1 } in
+    let turned : ◌≡◌ {A = TimePeriod} (record { num = to_z w32 (of_z w32 (pos 0 -ℤ to_z w32 (of_z w32 c.args.p.num))); unit = c.args.p.unit }) (negated c.args.p) = let p = c.args.p in
+    ap {B = TimePeriod} (λ (z : ℤ). record { num = z; unit = p.unit }) (minus_read p.num num-fits (positive_not_least p.num c.requires.4)) in
+    let found : base_from c.args.p (negated c.args.p) c.args.start c.args.end c.args.roll ≡ walk_outcome c.base_from.result = let s = c.args in
+    ap (λ (q : TimePeriod). base_from s.p q s.start s.end s.roll) (sym turned) ∙ sym c.base_from.ensures in
+    let based : base_from c.args.p (negated c.args.p) c.args.start c.args.end c.args.roll ≡ given c.in-Walked.b = found ∙ ap walk_outcome c.in-Walked.is in
+    (c.requires.0, c.requires.1, c.requires.2, base_ends c.args.p c.args.start c.args.end c.args.roll c.in-Walked.b c.requires.3 c.requires.4 based, c.requires.4, subst (λ (q : TimePeriod). lt_z q.num (pos 0) ≡ true) (sym turned) (negative_back c.args.p.num c.requires.4))
 
 pub returns-in-Walked : goal.returns-in-Walked
 unfolding icma_parts
 returns-in-Walked c =
-    let s : tie.Start = c.before.before.before.before.before.before in
-    c.parts_from.ensures ∙ ap (λ (q : TimePeriod). parts_from s.args.p q s.args.start s.args.end c.in-Walked.b) (turned c.before.before.before.before.before) ∙ sym (ap (λ (o : Outcome Walked). and_then o (parts_from s.args.p (negated s.args.p) s.args.start s.args.end)) (based c.before.before))
+    let num-fits : SFits w32 c.args.p.num = record { sfits = c.struct_told-1.given.0.1 } in
+    let turned : ◌≡◌ {A = TimePeriod} (record { num = to_z w32 (of_z w32 (pos 0 -ℤ to_z w32 (of_z w32 c.args.p.num))); unit = c.args.p.unit }) (negated c.args.p) = let p = c.args.p in
+    ap {B = TimePeriod} (λ (z : ℤ). record { num = z; unit = p.unit }) (minus_read p.num num-fits (positive_not_least p.num c.requires.4)) in
+    let found : base_from c.args.p (negated c.args.p) c.args.start c.args.end c.args.roll ≡ walk_outcome c.base_from.result = let s = c.args in
+    ap (λ (q : TimePeriod). base_from s.p q s.start s.end s.roll) (sym turned) ∙ sym c.base_from.ensures in
+    let based : base_from c.args.p (negated c.args.p) c.args.start c.args.end c.args.roll ≡ given c.in-Walked.b = found ∙ ap walk_outcome c.in-Walked.is in
+    c.parts_from.ensures ∙ ap (λ (q : TimePeriod). parts_from c.args.p q c.args.start c.args.end c.in-Walked.b) turned ∙ sym (ap (λ (o : Outcome Walked). and_then o (parts_from c.args.p (negated c.args.p) c.args.start c.args.end)) based)
 
 pub returns-in-Refused : goal.returns-in-Refused
 unfolding icma_parts
 returns-in-Refused c =
-    let s : tie.Start = c.before.before.before.before.before in
-    sym (ap (λ (o : Outcome Walked). and_then o (parts_from s.args.p (negated s.args.p) s.args.start s.args.end)) (found c.before.before.before ∙ ap walk_outcome c.in-Refused.is))
+    let num-fits : SFits w32 c.args.p.num = record { sfits = c.struct_told-1.given.0.1 } in
+    let turned : ◌≡◌ {A = TimePeriod} (record { num = to_z w32 (of_z w32 (pos 0 -ℤ to_z w32 (of_z w32 c.args.p.num))); unit = c.args.p.unit }) (negated c.args.p) = let p = c.args.p in
+    ap {B = TimePeriod} (λ (z : ℤ). record { num = z; unit = p.unit }) (minus_read p.num num-fits (positive_not_least p.num c.requires.4)) in
+    let found : base_from c.args.p (negated c.args.p) c.args.start c.args.end c.args.roll ≡ walk_outcome c.base_from.result = let s = c.args in
+    ap (λ (q : TimePeriod). base_from s.p q s.start s.end s.roll) (sym turned) ∙ sym c.base_from.ensures in
+    sym (ap (λ (o : Outcome Walked). and_then o (parts_from c.args.p (negated c.args.p) c.args.start c.args.end)) (found ∙ ap walk_outcome c.in-Refused.is))

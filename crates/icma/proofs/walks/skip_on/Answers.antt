@@ -1,27 +1,28 @@
 -- `icma::skip_on` meets its contract: the period's months are at least one, and the month reached
 -- lies between the two.
-use Prim.Native.Nat.{ℕ, ◌+◌, ◌-◌, ◌*◌, ◌/◌}
+use Prim.Native.Nat.{ℕ, ◌+◌, ◌-◌, ◌*◌, ◌/◌, ◌≤◌, ◌<◌}
 use mathlib.Core.Path.{◌≡◌, sym, ◌∙◌, ap}
 use mathlib.Core.Bool.{true, false}
 use native.Mathlib.Omega.{arith}
+use native.Mathlib.Nat.{div-mul-le_self}
 use lib.Dec.{leb}
+use lib.IntN.{nat_abs}
+use mir.Facts.{to_z-of_z}
+use mir.Syntax.{w32}
+use mir.Val.{SFits}
 use borrow.Author.Tests.{le-leb, lt-leb, leb-true}
 use Rattle.outcome.proofs.Outcomes.{both_true}
 use Rattle.calendar.specs.dates.Dates.{month_index, month_date}
 use Rattle.calendar.specs.declared.dates.Date.{Date}
 use Rattle.calendar.proofs.dates.Dates.{date-yes}
+use Rattle.calendar.proofs.dates.Order.{index_to}
 use Rattle.icma.specs.walks.Skips.{is_months, is_uncut, leap_on}
 use Rattle.icma.specs.declared.walks.Walked.{Walked}
 use Rattle.icma.proofs.walks.skip_on.Goals as goal
-use Rattle.icma.proofs.walks.skip_on.Goals.{Else-not-is_uncut}
 
 -- where as many whole periods as fit lead
 abbrev leapt : ℕ → ℕ → ℕ → ℕ → Walked
 leapt h t n d = record { at = month_date (h + (t - h - 1) / n * n) d; count = (t - h - 1) / n }
-
--- past the first test no step cuts the day
-uncut : (c : Else-not-is_uncut) → is_uncut c.args.p c.args.from ≡ true
-uncut c = sym c.is_uncut.ensures ∙ c.if-not-is_uncut.false
 
 pub returns-then-not-is_uncut : goal.returns-then-not-is_uncut
 unfolding leap_on
@@ -30,27 +31,51 @@ returns-then-not-is_uncut c = rw (sym c.is_uncut.ensures ∙ c.if-not-is_uncut.t
 pub returns-then-there-here : goal.returns-then-there-here
 unfolding leap_on
 returns-then-there-here c =
-    let s : tie.Start = c.before.before.before.before.before in
-    let e : leb (month_index s.args.limit) (month_index s.args.from) ≡ true = le-leb (month_index s.args.limit) (month_index s.args.from) (omega (arith, c.if-there-here.true, c.month_index-there.ensures, c.month_index-here.ensures)) in
-    rw (uncut c.before.before.before, e)
+    let uncut : is_uncut c.args.p c.args.from ≡ true = sym c.is_uncut.ensures ∙ c.if-not-is_uncut.false in
+    let e : leb (month_index c.args.limit) (month_index c.args.from) ≡ true = le-leb (month_index c.args.limit) (month_index c.args.from) (omega (arith, c.if-there-here.true, c.month_index-there.ensures, c.month_index-here.ensures)) in
+    rw (uncut, e)
 
 pub overflow_mul-count : goal.overflow_mul-count
-overflow_mul-count c = omega (arith, whole c, from-most c, limit-most c)
+overflow_mul-count c =
+    let here : ℕ = c.month_index-here.result in
+    let there : ℕ = c.month_index-there.result in
+    let whole : (there - here - 1) / c.magnitude-months.result * c.magnitude-months.result ≤ there - here - 1 = div-mul-le_self (there - here - 1) c.magnitude-months.result in
+    let from-most : here ≤ 119987 = omega (arith, c.month_index-here.ensures, index_to c.args.from (date-yes c.args.from c.requires.0)) in
+    let limit-most : there ≤ 119987 = omega (arith, c.month_index-there.ensures, index_to c.args.limit (date-yes c.args.limit c.requires.1)) in
+    omega (arith, whole, from-most, limit-most)
 
 pub overflow_add-here : goal.overflow_add-here
-overflow_add-here c = omega (arith, whole c, from-most c, limit-most c, apart c)
+overflow_add-here c =
+    let here : ℕ = c.month_index-here.result in
+    let there : ℕ = c.month_index-there.result in
+    let apart : here < there = c.if-there-here.false in
+    let whole : (there - here - 1) / c.magnitude-months.result * c.magnitude-months.result ≤ there - here - 1 = div-mul-le_self (there - here - 1) c.magnitude-months.result in
+    let from-most : here ≤ 119987 = omega (arith, c.month_index-here.ensures, index_to c.args.from (date-yes c.args.from c.requires.0)) in
+    let limit-most : there ≤ 119987 = omega (arith, c.month_index-there.ensures, index_to c.args.limit (date-yes c.args.limit c.requires.1)) in
+    omega (arith, whole, from-most, limit-most, apart)
 
 pub uncut_date-at-requires : goal.uncut_date-at-requires
 uncut_date-at-requires c =
-    let s = start c in
-    (omega (arith, whole c, from-most c, limit-most c, apart c), (date-yes s.args.from s.pre.0).day-from, leb-true s.args.from.day 28 (both_true (is_months s.args.p.unit) (leb s.args.from.day 28) (uncut c.before.before.before.before.before)).1)
+    let uncut : is_uncut c.args.p c.args.from ≡ true = sym c.is_uncut.ensures ∙ c.if-not-is_uncut.false in
+    let here : ℕ = c.month_index-here.result in
+    let there : ℕ = c.month_index-there.result in
+    let apart : here < there = c.if-there-here.false in
+    let whole : (there - here - 1) / c.magnitude-months.result * c.magnitude-months.result ≤ there - here - 1 = div-mul-le_self (there - here - 1) c.magnitude-months.result in
+    let from-most : here ≤ 119987 = omega (arith, c.month_index-here.ensures, index_to c.args.from (date-yes c.args.from c.requires.0)) in
+    let limit-most : there ≤ 119987 = omega (arith, c.month_index-there.ensures, index_to c.args.limit (date-yes c.args.limit c.requires.1)) in
+    (omega (arith, whole, from-most, limit-most, apart), (date-yes c.args.from c.requires.0).day-from, leb-true c.args.from.day 28 (both_true (is_months c.args.p.unit) (leb c.args.from.day 28) uncut).1)
 
 pub returns : goal.returns
 unfolding leap_on
 returns c =
-    let s = start c.before in
+    let uncut : is_uncut c.args.p c.args.from ≡ true = sym c.is_uncut.ensures ∙ c.if-not-is_uncut.false in
+    let here : ℕ = c.month_index-here.result in
+    let there : ℕ = c.month_index-there.result in
+    let num-fits : SFits w32 c.args.p.num = record { sfits = c.struct_told-1.given.0.1 } in
+    let months : c.magnitude-months.result ≡ nat_abs c.args.p.num = c.magnitude-months.ensures ∙ ap nat_abs (to_z-of_z num-fits) in
+    let apart : here < there = c.if-there-here.false in
     let h = c.month_index-here.ensures in
     let t = c.month_index-there.ensures in
-    let e : leb (month_index s.args.limit) (month_index s.args.from) ≡ false = lt-leb (month_index s.args.limit) (month_index s.args.from) (omega (arith, apart c.before, h, t)) in
-    rw (uncut c.before.before.before.before.before.before, e)
-    (ap {B = Walked} (λ (x : Date). record { at = x; count = (there c.before - here c.before - 1) / c.magnitude-months.result }) c.uncut_date-at.ensures ∙ λ i. leapt (h i) (t i) (months c.before i) s.args.from.day)
+    let e : leb (month_index c.args.limit) (month_index c.args.from) ≡ false = lt-leb (month_index c.args.limit) (month_index c.args.from) (omega (arith, apart, h, t)) in
+    rw (uncut, e)
+    (ap {B = Walked} (λ (x : Date). record { at = x; count = (there - here - 1) / c.magnitude-months.result }) c.uncut_date-at.ensures ∙ λ i. leapt (h i) (t i) (months i) c.args.from.day)

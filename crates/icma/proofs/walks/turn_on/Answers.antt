@@ -15,18 +15,12 @@ reached w limit u = given (record { at = u; count = pick (is_before limit u) w.c
 
 pub returns-then-is_before : goal.returns-then-is_before
 unfolding turn_on
-returns-then-is_before c =
-    let s : tie.Start = c.before.before.before.before.before.before in
-    sym (ap (λ (o : Outcome Date). and_then o (reached s.args.w s.args.limit)) (sym c.step.ensures ∙ ap date_outcome c.in-Date.is) ∙ rw (sym c.is_before.ensures ∙ c.if-is_before.true))
+returns-then-is_before c = sym (ap (λ (o : Outcome Date). and_then o (reached c.args.w c.args.limit)) (sym c.step.ensures ∙ ap date_outcome c.in-Date.is) ∙ rw (sym c.is_before.ensures ∙ c.if-is_before.true))
 
 pub returns-else-is_before : goal.returns-else-is_before
 unfolding turn_on
-returns-else-is_before c =
-    let s : tie.Start = c.before.before.before.before.before.before in
-    sym (ap (λ (o : Outcome Date). and_then o (reached s.args.w s.args.limit)) (sym c.step.ensures ∙ ap date_outcome c.in-Date.is) ∙ rw (sym c.is_before.ensures ∙ c.if-is_before.false))
+returns-else-is_before c = sym (ap (λ (o : Outcome Date). and_then o (reached c.args.w c.args.limit)) (sym c.step.ensures ∙ ap date_outcome c.in-Date.is) ∙ rw (sym c.is_before.ensures ∙ c.if-is_before.false))
 
 pub returns-in-Refused : goal.returns-in-Refused
 unfolding turn_on
-returns-in-Refused c =
-    let s : tie.Start = c.before.before.before.before in
-    sym (ap (λ (o : Outcome Date). and_then o (reached s.args.w s.args.limit)) (sym c.step.ensures ∙ ap date_outcome c.in-Refused.is))
+returns-in-Refused c = sym (ap (λ (o : Outcome Date). and_then o (reached c.args.w c.args.limit)) (sym c.step.ensures ∙ ap date_outcome c.in-Refused.is))

@@ -1,18 +1,12 @@
 -- `note_flows::collect` meets its contract. The loop's invariant: what is counted and what is left
 -- are the whole, and what is counted is kept. The measure: how many flows there can be.
-use mathlib.Core.Path.{subst}
+use mathlib.Core.Path.{◌≡◌, subst}
 use native.Mathlib.Omega.{arith}
-use Rattle.note_flows.specs.flows.Turns.{Turned}
+use Rattle.note_flows.specs.flows.NoteFlows.{flow_day}
+use Rattle.note_flows.specs.flows.Turns.{Pays, Turned}
 use Rattle.note_flows.proofs.flows.Dues.{step_turns}
 use Rattle.note_flows.proofs.flows.Collecting.{counting_stop, counting_end, collecting_none, collecting_more, collecting_stop, collecting_end}
 use Rattle.note_flows.proofs.flows.collect.Goals as goal
-use Rattle.note_flows.proofs.flows.collect.Goals.{After-next_flow_near-taken}
-
--- the step turns, and where it pays
-turned-at : (c : After-next_flow_near-taken) → Turned c.args.note c.args.position c.args.table.now c.loop-day.due c.next_flow_near-taken.result.step
-turned-at c =
-    let s : tie.Start invariant-loop decreases-loop = c.before.before.before.before.before in
-    step_turns s.args.note s.args.position s.args.table.now s.requires c.loop-day.due c.loop-day.invariant.counting.dated _ c.next_flow_near-taken.ensures
 
 pub loop-day-init : goal.loop-day-init
 loop-day-init _ = collecting_none _ _ _ _ _
@@ -24,10 +18,16 @@ pub overflow_add-k : goal.overflow_add-k
 overflow_add-k c = let i = c.loop-day.invariant in omega (arith, i.counting.few)
 
 pub loop-day-smaller : goal.loop-day-smaller
-loop-day-smaller c = (pays c.before.before.before.before.before.before.before.before.before).0.fewer
+loop-day-smaller c =
+    let turned-at : Turned c.args.note c.args.position c.args.table.now c.loop-day.due c.next_flow_near-taken.result.step = step_turns c.args.note c.args.position c.args.table.now c.requires c.loop-day.due c.loop-day.invariant.counting.dated _ c.next_flow_near-taken.ensures in
+    let pays : Pays c.args.note c.args.position c.args.table.now c.loop-day.due c.in-Pay.flow c.in-Pay.next × (c.in-Pay.day ≡ flow_day c.in-Pay.flow) = subst (Turned _ _ _ c.loop-day.due) c.in-Pay.is turned-at in
+    pays.0.fewer
 
 pub loop-day-preserved : goal.loop-day-preserved
-loop-day-preserved c = collecting_more _ _ _ _ _ c.loop-day.invariant (pays c.before.before.before.before.before.before.before.before.before) c.keep_day.ensures c.keep_amount.ensures
+loop-day-preserved c =
+    let turned-at : Turned c.args.note c.args.position c.args.table.now c.loop-day.due c.next_flow_near-taken.result.step = step_turns c.args.note c.args.position c.args.table.now c.requires c.loop-day.due c.loop-day.invariant.counting.dated _ c.next_flow_near-taken.ensures in
+    let pays : Pays c.args.note c.args.position c.args.table.now c.loop-day.due c.in-Pay.flow c.in-Pay.next × (c.in-Pay.day ≡ flow_day c.in-Pay.flow) = subst (Turned _ _ _ c.loop-day.due) c.in-Pay.is turned-at in
+    collecting_more _ _ _ _ _ c.loop-day.invariant pays c.keep_day.ensures c.keep_amount.ensures
 
 pub shape_of-days-in-Stop : goal.shape_of-days-in-Stop
 shape_of-days-in-Stop c = c.loop-day.invariant.as_many_days
@@ -37,7 +37,8 @@ shape_of-amounts-in-Stop c = c.loop-day.invariant.as_many_amounts
 
 pub returns-in-Stop : goal.returns-in-Stop
 returns-in-Stop c =
-    let e = subst (Turned _ _ _ c.loop-day.due) c.in-Stop.is (turned-at c.before.before.before) in
+    let turned-at : Turned c.args.note c.args.position c.args.table.now c.loop-day.due c.next_flow_near-taken.result.step = step_turns c.args.note c.args.position c.args.table.now c.requires c.loop-day.due c.loop-day.invariant.counting.dated _ c.next_flow_near-taken.ensures in
+    let e = subst (Turned _ _ _ c.loop-day.due) c.in-Stop.is turned-at in
     (counting_stop _ _ _ c.loop-day.invariant.counting e, collecting_stop _ _ _ _ _ c.loop-day.invariant e)
 
 pub shape_of-days-in-End : goal.shape_of-days-in-End
@@ -48,5 +49,6 @@ shape_of-amounts-in-End c = c.loop-day.invariant.as_many_amounts
 
 pub returns-in-End : goal.returns-in-End
 returns-in-End c =
-    let e = subst (Turned _ _ _ c.loop-day.due) c.in-End.is (turned-at c.before.before) in
+    let turned-at : Turned c.args.note c.args.position c.args.table.now c.loop-day.due c.next_flow_near-taken.result.step = step_turns c.args.note c.args.position c.args.table.now c.requires c.loop-day.due c.loop-day.invariant.counting.dated _ c.next_flow_near-taken.ensures in
+    let e = subst (Turned _ _ _ c.loop-day.due) c.in-End.is turned-at in
     (counting_end _ _ _ c.loop-day.invariant.counting e, collecting_end _ _ _ _ _ c.loop-day.invariant e)

@@ -5,6 +5,4 @@ use Rattle.calendar.proofs.dates.Order.{same-yes}
 use Rattle.note_flows.proofs.flows.day_from.Goals as goal
 
 pub returns-then-is_same : goal.returns-then-is_same
-returns-then-is_same c =
-    let s : tie.Start = c.before.before in
-    s.requires.1 ∙ ap day_number (sym (same-yes s.args.u s.args.t (sym c.is_same.ensures ∙ c.if-is_same.true)))
+returns-then-is_same c = c.requires.1 ∙ ap day_number (sym (same-yes c.args.u c.args.t (sym c.is_same.ensures ∙ c.if-is_same.true)))

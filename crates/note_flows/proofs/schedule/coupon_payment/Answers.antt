@@ -8,18 +8,13 @@ use Rattle.note_flows.specs.declared.schedule.Due.TheVariants.{After}
 use Rattle.note_flows.specs.declared.schedule.Payment.{Payment}
 use Rattle.note_flows.specs.declared.schedule.Payment.TheVariants.{Pay}
 use Rattle.note_flows.proofs.schedule.coupon_payment.Goals as goal
-use Rattle.note_flows.proofs.schedule.coupon_payment.Goals.{Start}
-
--- what is owed for an answer
-owing : Start → YearFraction → Payment
-owing s f = coupon_payment s.args.note s.args.position s.args.end (fraction_outcome f)
 
 pub returns-in-Fraction : goal.returns-in-Fraction
 returns-in-Fraction c =
-    let s : tie.Start = c.before.before.before.before in
-    ap (λ (x : Float). Pay s.args.end x (After s.args.end)) c.coupon_amount-amount.ensures ∙ ap (owing s) (sym c.in-Fraction.is)
+    let owing : YearFraction → Payment = λ f. coupon_payment c.args.note c.args.position c.args.end (fraction_outcome f) in
+    ap (λ (x : Float). Pay c.args.end x (After c.args.end)) c.coupon_amount-amount.ensures ∙ ap owing (sym c.in-Fraction.is)
 
 pub returns-in-Refused : goal.returns-in-Refused
 returns-in-Refused c =
-    let s : tie.Start = c.before.before.before in
-    ap (owing s) (sym c.in-Refused.is)
+    let owing : YearFraction → Payment = λ f. coupon_payment c.args.note c.args.position c.args.end (fraction_outcome f) in
+    ap owing (sym c.in-Refused.is)

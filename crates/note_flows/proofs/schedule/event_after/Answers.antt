@@ -6,17 +6,16 @@ use Rattle.calendar.specs.serial.Answers.{date_outcome}
 use Rattle.note_flows.specs.schedule.Schedule.{coupon_to}
 use Rattle.note_flows.specs.declared.schedule.Event.TheVariants.{Later}
 use Rattle.note_flows.proofs.schedule.event_after.Goals as goal
-use Rattle.note_flows.proofs.schedule.event_after.Goals.{Else-not-is_before}
-
--- past its test the end is before maturity
-early : (c : Else-not-is_before) → is_before c.args.end c.args.note.maturity ≡ true
-early c = sym c.is_before.ensures ∙ c.if-not-is_before.false
 
 pub returns-then-not-is_before : goal.returns-then-not-is_before
 returns-then-not-is_before c = rw (sym c.is_before.ensures ∙ c.if-not-is_before.true)
 
 pub returns-in-Date : goal.returns-in-Date
-returns-in-Date c = rw (early c.before.before.before.before.before) (ap (coupon_to (Later _)) (ap date_outcome (sym c.in-Date.is) ∙ c.step.ensures))
+returns-in-Date c =
+    let early : is_before c.args.end c.args.note.maturity ≡ true = sym c.is_before.ensures ∙ c.if-not-is_before.false in
+    rw early (ap (coupon_to (Later _)) (ap date_outcome (sym c.in-Date.is) ∙ c.step.ensures))
 
 pub returns-in-Refused : goal.returns-in-Refused
-returns-in-Refused c = rw (early c.before.before.before.before.before) (ap (coupon_to (Later _)) (ap date_outcome (sym c.in-Refused.is) ∙ c.step.ensures))
+returns-in-Refused c =
+    let early : is_before c.args.end c.args.note.maturity ≡ true = sym c.is_before.ensures ∙ c.if-not-is_before.false in
+    rw early (ap (coupon_to (Later _)) (ap date_outcome (sym c.in-Refused.is) ∙ c.step.ensures))

@@ -7,35 +7,27 @@ use Rattle.note_flows.specs.declared.schedule.Payment.TheVariants.{Pay}
 use Rattle.note_flows.proofs.schedule.payment_for.Goals as goal
 
 pub first_fraction-requires : goal.first_fraction-requires
-first_fraction-requires c =
-    let s : tie.Start = c.before.before.before in
-    subst (Spanned s.args.note) c.in-First.is s.requires
+first_fraction-requires c = subst (Spanned c.args.note) c.in-First.is c.requires
 
 pub later_fraction-requires : goal.later_fraction-requires
-later_fraction-requires c =
-    let s : tie.Start = c.before.before.before in
-    subst (Spanned s.args.note) c.in-Later.is s.requires
+later_fraction-requires c = subst (Spanned c.args.note) c.in-Later.is c.requires
 
 pub returns-in-First : goal.returns-in-First
 returns-in-First c =
-    let s : tie.Start = c.before.before.before.before.before in
     let g = c.c-1.given in
     c.coupon_payment.ensures
-    ∙ ap (coupon_payment s.args.note s.args.position g.0.1.0) c.first_fraction.ensures
-    ∙ ap (payment_of s.args.note s.args.position) (sym g.1)
+    ∙ ap (coupon_payment c.args.note c.args.position g.0.1.0) c.first_fraction.ensures
+    ∙ ap (payment_of c.args.note c.args.position) (sym g.1)
 
 pub returns-in-Later : goal.returns-in-Later
 returns-in-Later c =
-    let s : tie.Start = c.before.before.before.before.before in
     let g = c.c-in-Later-1.given in
     c.coupon_payment-in-Later.ensures
-    ∙ ap (coupon_payment s.args.note s.args.position g.0.1.0) c.later_fraction.ensures
-    ∙ ap (payment_of s.args.note s.args.position) (sym g.1)
+    ∙ ap (coupon_payment c.args.note c.args.position g.0.1.0) c.later_fraction.ensures
+    ∙ ap (payment_of c.args.note c.args.position) (sym g.1)
 
 pub returns-in-Nominal : goal.returns-in-Nominal
-returns-in-Nominal c =
-    let s : tie.Start = c.before.before.before.before in
-    ap (λ (x : Float). Pay s.args.note.maturity x Nothing) c.nominal-amount.ensures ∙ ap (payment_of s.args.note s.args.position) (sym c.in-Nominal.is)
+returns-in-Nominal c = ap (λ (x : Float). Pay c.args.note.maturity x Nothing) c.nominal-amount.ensures ∙ ap (payment_of c.args.note c.args.position) (sym c.in-Nominal.is)
 
 pub returns-in-Stop : goal.returns-in-Stop
 returns-in-Stop c = ap (payment_of _ _) (sym c.in-Stop.is)

@@ -13,27 +13,26 @@ use lib.Dec.{T}
 use Rattle.number_text.specs.write.Writing.{length_outcome, Takes}
 use Rattle.note_listing.proofs.lines.Lines.{line_takes, line_takes_none}
 use Rattle.note_listing.proofs.lines.line_length.Goals as goal
-use Rattle.note_listing.proofs.lines.line_length.Goals.{Start, In-Length}
-
-start : In-Length → Start
-start c = c.before.before.before.before.before
-
--- what the flow takes
-takes : (c : In-Length) → (Takes (line_shown (flow_on (start c).args.currency (start c).args.day (start c).args.amount)) (Length (c.in-Length.k + 1))) × (c.in-Length.k + 1 ≤ 331)
-takes c =
-    let s = start c in
-    let f : CashFlow = flow_on s.args.currency s.args.day s.args.amount in
-    line_takes f c.in-Length.k (subst T (sym s.good.1.1.0.1) tt)
-    (ap length_outcome (sym c.in-Length.is) ∙ c.cash_flow_length.ensures ∙ ap (λ (g : CashFlow). passed_as length (flow_shown g)) c.flow_on.ensures)
 
 pub overflow_add-result : goal.overflow_add-result
-overflow_add-result c = omega (arith, (takes c).1)
+overflow_add-result c =
+    let start : tie.Start = c in
+    let takes : (Takes (line_shown (flow_on start.args.currency start.args.day start.args.amount)) (Length (c.in-Length.k + 1))) × (c.in-Length.k + 1 ≤ 331) = let s = start in
+    let f : CashFlow = flow_on s.args.currency s.args.day s.args.amount in
+    line_takes f c.in-Length.k (subst T (sym s.good.1.1.0.1) tt)
+    (ap length_outcome (sym c.in-Length.is) ∙ c.cash_flow_length.ensures ∙ ap (λ (g : CashFlow). passed_as length (flow_shown g)) c.flow_on.ensures) in
+    omega (arith, takes.1)
 
 pub returns-in-Length : goal.returns-in-Length
-returns-in-Length c = takes c
+returns-in-Length c =
+    let start : tie.Start = c in
+    let takes : (Takes (line_shown (flow_on start.args.currency start.args.day start.args.amount)) (Length (c.in-Length.k + 1))) × (c.in-Length.k + 1 ≤ 331) = let s = start in
+    let f : CashFlow = flow_on s.args.currency s.args.day s.args.amount in
+    line_takes f c.in-Length.k (subst T (sym s.good.1.1.0.1) tt)
+    (ap length_outcome (sym c.in-Length.is) ∙ c.cash_flow_length.ensures ∙ ap (λ (g : CashFlow). passed_as length (flow_shown g)) c.flow_on.ensures) in
+    takes
 
 pub returns-in-Refused : goal.returns-in-Refused
 returns-in-Refused c =
-    let s : tie.Start = c.before.before.before.before.before in
-    let f : CashFlow = flow_on s.args.currency s.args.day s.args.amount in
+    let f : CashFlow = flow_on c.args.currency c.args.day c.args.amount in
     (line_takes_none f _ (ap length_outcome (sym c.in-Refused.is) ∙ c.cash_flow_length.ensures ∙ ap (λ (g : CashFlow). passed_as length (flow_shown g)) c.flow_on.ensures), omega arith)

@@ -10,11 +10,6 @@ use Rattle.note_listing.specs.lines.Inner.{flows_shown, AtMost}
 use Rattle.cash_flow.specs.declared.flow.CashFlow.{CashFlow}
 use Rattle.note_listing.proofs.lines.Lines.{flows-next, flows-none, lines_none, tally_line, tally_refused}
 use Rattle.note_listing.proofs.lines.lines_length.Goals as goal
-use Rattle.note_listing.proofs.lines.lines_length.Goals.{In-Length}
-
--- a line is not long
-short : (c : In-Length) → c.in-Length.k ≤ 331
-short c = subst (AtMost 331) c.in-Length.is c.line_length.ensures.1
 
 pub loop-i-init : goal.loop-i-init
 loop-i-init _ = (omega arith, omega arith, refl)
@@ -26,14 +21,17 @@ pub offset_bounds-amounts-i : goal.offset_bounds-amounts-i
 offset_bounds-amounts-i _ = record { fits = omega arith }
 
 pub overflow_add-total : goal.overflow_add-total
-overflow_add-total c = record { fits = omega (arith, short c) }
+overflow_add-total c =
+    let short : c.in-Length.k ≤ 331 = subst (AtMost 331) c.in-Length.is c.line_length.ensures.1 in
+    record { fits = omega (arith, short) }
 
 pub loop-i-preserved : goal.loop-i-preserved
 loop-i-preserved c =
+    let short : c.in-Length.k ≤ 331 = subst (AtMost 331) c.in-Length.is c.line_length.ensures.1 in
     let l = c.loop-i in
     let a = c.args in
     let next = flows-next a.currency a.days.now a.amounts.now l.i (omega arith) (omega arith) in
-    (omega arith, omega (arith, short c), tally_line l.total c.in-Length.k _ _ _ (sym (ap (λ (fs : List CashFlow). tally l.total (lines_of fs)) next) ∙ l.invariant.2) (ap length_outcome (sym c.in-Length.is) ∙ c.line_length.ensures.0))
+    (omega arith, omega (arith, short), tally_line l.total c.in-Length.k _ _ _ (sym (ap (λ (fs : List CashFlow). tally l.total (lines_of fs)) next) ∙ l.invariant.2) (ap length_outcome (sym c.in-Length.is) ∙ c.line_length.ensures.0))
 
 pub returns-in-Refused : goal.returns-in-Refused
 returns-in-Refused c =

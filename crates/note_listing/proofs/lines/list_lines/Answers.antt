@@ -9,34 +9,26 @@ use Rattle.note_listing.specs.lines.Lines.{lines_of}
 use Rattle.note_listing.specs.lines.Inner.{flows_shown, AtMost}
 use Rattle.note_listing.proofs.lines.Lines.{all_written, none_written, lines_short, refusal_is, refusal_written}
 use Rattle.note_listing.proofs.lines.list_lines.Goals as goal
-use Rattle.note_listing.proofs.lines.list_lines.Goals.{In-Length-2}
-
--- how long the lines are
-length-is : (c : In-Length-2) → given c.in-Length.k ≡ and_then (lines_of (flows_shown c.args.currency c.args.days.now c.args.amounts.now)) (λ t. given (length t))
-length-is c = ap length_outcome (sym c.in-Length.is) ∙ c.lines_length.ensures.0
-
-short : (c : In-Length-2) → c.in-Length.k ≤ 662000
-short c = subst (AtMost 662000) c.in-Length.is c.lines_length.ensures.1
 
 pub returns-then-out-k : goal.returns-then-out-k
 returns-then-out-k c =
-    let s : tie.Start = c.before.before.before.before.before.before.before.before in
-    let o = lines_of (flows_shown s.args.currency s.args.days.now s.args.amounts.now) in
-    (none_written o s.args.out.now _ (length-is c.before.before) c.if-out-k.true, lines_short o _ (length-is c.before.before) (short c.before.before))
+    let length-is : given c.in-Length.k ≡ and_then (lines_of (flows_shown c.args.currency c.args.days.now c.args.amounts.now)) (λ t. given (length t)) = ap length_outcome (sym c.in-Length.is) ∙ c.lines_length.ensures.0 in
+    let short : c.in-Length.k ≤ 662000 = subst (AtMost 662000) c.in-Length.is c.lines_length.ensures.1 in
+    let o = lines_of (flows_shown c.args.currency c.args.days.now c.args.amounts.now) in
+    (none_written o c.args.out.now _ length-is c.if-out-k.true, lines_short o _ length-is short)
 
 pub put_lines-requires : goal.put_lines-requires
 put_lines-requires c =
-    let s : tie.Start = c.before.before.before.before.before.before.before.before.before in
-    (s.requires.1, (all_written (lines_of (flows_shown s.args.currency s.args.days.now s.args.amounts.now)) s.args.out.now _ (length-is c.before.before.before) (omega arith)).0)
+    let length-is : given c.in-Length.k ≡ and_then (lines_of (flows_shown c.args.currency c.args.days.now c.args.amounts.now)) (λ t. given (length t)) = ap length_outcome (sym c.in-Length.is) ∙ c.lines_length.ensures.0 in
+    (c.requires.1, (all_written (lines_of (flows_shown c.args.currency c.args.days.now c.args.amounts.now)) c.args.out.now _ length-is (omega arith)).0)
 
 pub returns-else-out-k : goal.returns-else-out-k
 returns-else-out-k c =
-    let s : tie.Start = c.before.before.before.before.before.before.before.before.before.before.before.before in
-    let o = lines_of (flows_shown s.args.currency s.args.days.now s.args.amounts.now) in
-    let w = (all_written o s.args.out.now _ (length-is c.before.before.before.before.before.before) (omega arith)).1 in
-    ((w.0, c.put_lines.ensures ∙ w.1), lines_short o _ (length-is c.before.before.before.before.before.before) (short c.before.before.before.before.before.before))
+    let length-is : given c.in-Length.k ≡ and_then (lines_of (flows_shown c.args.currency c.args.days.now c.args.amounts.now)) (λ t. given (length t)) = ap length_outcome (sym c.in-Length.is) ∙ c.lines_length.ensures.0 in
+    let short : c.in-Length.k ≤ 662000 = subst (AtMost 662000) c.in-Length.is c.lines_length.ensures.1 in
+    let o = lines_of (flows_shown c.args.currency c.args.days.now c.args.amounts.now) in
+    let w = (all_written o c.args.out.now _ length-is (omega arith)).1 in
+    ((w.0, c.put_lines.ensures ∙ w.1), lines_short o _ length-is short)
 
 pub returns-in-Refused : goal.returns-in-Refused
-returns-in-Refused c =
-    let s : tie.Start = c.before.before.before.before.before.before.before.before.before.before.before in
-    refusal_written _ _ _ _ _ (refusal_is (lines_of (flows_shown s.args.currency s.args.days.now s.args.amounts.now)) _ (ap length_outcome (sym c.in-Refused.is) ∙ c.lines_length.ensures.0)) c.write_refusal.ensures
+returns-in-Refused c = refusal_written _ _ _ _ _ (refusal_is (lines_of (flows_shown c.args.currency c.args.days.now c.args.amounts.now)) _ (ap length_outcome (sym c.in-Refused.is) ∙ c.lines_length.ensures.0)) c.write_refusal.ensures

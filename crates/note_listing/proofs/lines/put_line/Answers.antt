@@ -10,27 +10,26 @@ use Rattle.note_listing.specs.lines.Lines.{line_shown}
 use Rattle.note_listing.specs.lines.Inner.{flow_on, text_of}
 use Rattle.note_listing.proofs.lines.Lines.{Fitting, line_fitting}
 use Rattle.note_listing.proofs.lines.put_line.Goals as goal
-use Rattle.note_listing.proofs.lines.put_line.Goals.{After-flow_on}
-
-fits : (c : After-flow_on) → Fitting c.flow_on.result (length c.args.out.now) c.args.at
-fits c =
-    let s : tie.Start = c.before.before in
-    subst (λ (f : CashFlow). Fitting f (length s.args.out.now) s.args.at) (sym c.flow_on.ensures) (line_fitting (flow_on s.args.currency s.args.day s.args.amount) (length s.args.out.now) s.args.at s.requires)
 
 pub put_cash_flow_at-end-requires : goal.put_cash_flow_at-end-requires
 put_cash_flow_at-end-requires c =
-    let f = fits c.before in
+    let fits : Fitting c.flow_on.result (length c.args.out.now) c.args.at = subst (λ (f : CashFlow). Fitting f (length c.args.out.now) c.args.at) (sym c.flow_on.ensures) (line_fitting (flow_on c.args.currency c.args.day c.args.amount) (length c.args.out.now) c.args.at c.requires) in
+    let f = fits in
     (f.shown, omega (arith, f.room))
 
 pub bounds-out-end : goal.bounds-out-end
-bounds-out-end c = omega (arith, (fits c.before.before.before.before).room, c.put_cash_flow_at-end.ensures.1, c.put_cash_flow_at-end.auto.1.0)
+bounds-out-end c =
+    let fits : Fitting c.flow_on.result (length c.args.out.now) c.args.at = subst (λ (f : CashFlow). Fitting f (length c.args.out.now) c.args.at) (sym c.flow_on.ensures) (line_fitting (flow_on c.args.currency c.args.day c.args.amount) (length c.args.out.now) c.args.at c.requires) in
+    omega (arith, fits.room, c.put_cash_flow_at-end.ensures.1, c.put_cash_flow_at-end.auto.1.0)
 
 pub overflow_add-result : goal.overflow_add-result
-overflow_add-result c = omega (arith, (fits c.before.before.before.before).room, c.put_cash_flow_at-end.ensures.1)
+overflow_add-result c =
+    let fits : Fitting c.flow_on.result (length c.args.out.now) c.args.at = subst (λ (f : CashFlow). Fitting f (length c.args.out.now) c.args.at) (sym c.flow_on.ensures) (line_fitting (flow_on c.args.currency c.args.day c.args.amount) (length c.args.out.now) c.args.at c.requires) in
+    omega (arith, fits.room, c.put_cash_flow_at-end.ensures.1)
 
 pub returns : goal.returns
 returns c =
-    let s : tie.Start = c.before.before.before.before.before.before in
-    let room : c.put_cash_flow_at-end.result < length c.put_cash_flow_at-end.new.1.0 = omega (arith, (fits c.before.before.before.before).room, c.put_cash_flow_at-end.ensures.1, c.put_cash_flow_at-end.auto.1.0) in
-    wrote_is _ _ _ _ _ _ (wrote_then _ _ _ _ _ _ _ _ c.put_cash_flow_at-end.ensures (wrote_one _ c.put_cash_flow_at-end.result 10 room) (omega (arith, (fits c.before.before.before.before).room)))
-    (sym (fits c.before.before.before.before).text ∙ ap (λ (f : CashFlow). text_of (line_shown f)) c.flow_on.ensures)
+    let fits : Fitting c.flow_on.result (length c.args.out.now) c.args.at = subst (λ (f : CashFlow). Fitting f (length c.args.out.now) c.args.at) (sym c.flow_on.ensures) (line_fitting (flow_on c.args.currency c.args.day c.args.amount) (length c.args.out.now) c.args.at c.requires) in
+    let room : c.put_cash_flow_at-end.result < length c.put_cash_flow_at-end.new.1.0 = omega (arith, fits.room, c.put_cash_flow_at-end.ensures.1, c.put_cash_flow_at-end.auto.1.0) in
+    wrote_is _ _ _ _ _ _ (wrote_then _ _ _ _ _ _ _ _ c.put_cash_flow_at-end.ensures (wrote_one _ c.put_cash_flow_at-end.result 10 room) (omega (arith, fits.room)))
+    (sym fits.text ∙ ap (λ (f : CashFlow). text_of (line_shown f)) c.flow_on.ensures)

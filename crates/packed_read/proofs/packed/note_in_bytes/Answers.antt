@@ -8,10 +8,6 @@ use Rattle.packed_read.specs.table.Tables.{days_from, is_whole}
 use Rattle.packed_read.proofs.table.Tables.{whole_long}
 use Rattle.packed_read.proofs.packed.Reading.{bytes_short, bytes_whole}
 use Rattle.packed_read.proofs.packed.note_in_bytes.Goals as goal
-use Rattle.packed_read.proofs.packed.note_in_bytes.Goals.{Else-not-is_whole}
-
-whole : (c : Else-not-is_whole) → is_whole c.args.s.now ≡ true
-whole c = sym c.is_whole.ensures ∙ c.if-not-is_whole.false
 
 pub returns-then-not-is_whole : goal.returns-then-not-is_whole
 returns-then-not-is_whole c =
@@ -19,18 +15,25 @@ returns-then-not-is_whole c =
     (bytes_short c.args.s.now e, λ p. absurd (true≢false (sym p.0 ∙ e)))
 
 pub table_count-n-requires : goal.table_count-n-requires
-table_count-n-requires c = whole_long c.args.s.now (whole c)
+table_count-n-requires c =
+    let whole : is_whole c.args.s.now ≡ true = sym c.is_whole.ensures ∙ c.if-not-is_whole.false in
+    whole_long c.args.s.now whole
 
 pub read_numbers-numbers-requires : goal.read_numbers-numbers-requires
-read_numbers-numbers-requires c = omega (arith, whole_long c.args.s.now (whole c.before))
+read_numbers-numbers-requires c =
+    let whole : is_whole c.args.s.now ≡ true = sym c.is_whole.ensures ∙ c.if-not-is_whole.false in
+    omega (arith, whole_long c.args.s.now whole)
 
 pub is_table_in-taken-requires : goal.is_table_in-taken-requires
-is_table_in-taken-requires c = (whole c.before.before.before, c.table_count-n.ensures.0, c.requires)
+is_table_in-taken-requires c =
+    let whole : is_whole c.args.s.now ≡ true = sym c.is_whole.ensures ∙ c.if-not-is_whole.false in
+    (whole, c.table_count-n.ensures.0, c.requires)
 
 pub returns : goal.returns
 returns c =
+    let whole : is_whole c.args.s.now ≡ true = sym c.is_whole.ensures ∙ c.if-not-is_whole.false in
     let s = c.args.s.now in
     let d = c.is_table_in-taken in (
-      c.note_from_numbers.ensures ∙ bytes_whole s _ _ (whole c.before.before.before.before.before.before.before) c.read_numbers-numbers.ensures.0 d.ensures.0,
+      c.note_from_numbers.ensures ∙ bytes_whole s _ _ whole c.read_numbers-numbers.ensures.0 d.ensures.0,
       λ p. subst (λ (k : ℕ). take k d.new.1.1.0 ≡ days_from s 0 k) c.table_count-n.ensures.0 (d.ensures.1 (d.ensures.0 ∙ p.1)),
     )

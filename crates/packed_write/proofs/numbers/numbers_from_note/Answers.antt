@@ -12,10 +12,6 @@ use mir.Facts.{to_z-of_z}
 use Rattle.packed_layout.specs.NoteLayout.{NumbersFit}
 use Rattle.packed_write.proofs.numbers.Accepted.{Capitals, capitals, accepted, digits_known, rate_no_nan, numbers_are, numbers_fit}
 use Rattle.packed_write.proofs.numbers.numbers_from_note.Goals as goal
-use Rattle.packed_write.proofs.numbers.numbers_from_note.Goals.{Start}
-
-letters-of : (c : Start) → Capitals c.args.note.currency
-letters-of c = capitals c.args.note.currency (accepted c.args.note c.requires).currency
 
 pub digits_places-requires : goal.digits_places-requires
 digits_places-requires c = (digits_known c.args.note.number (accepted c.args.note c.requires).number).to
@@ -24,13 +20,19 @@ pub float_to_bits-numbers : goal.float_to_bits-numbers
 float_to_bits-numbers c = rate_no_nan c.args.note.rate (accepted c.args.note c.requires).rate
 
 pub letter-requires : goal.letter-requires
-letter-requires c = omega (arith, (letters-of c.before.before.before.before.before.before.before.before.before.before.before.before.before.before.before.before.before.before.before.before.before.before.before).first)
+letter-requires c =
+    let letters-of : Capitals c.args.note.currency = capitals c.args.note.currency (accepted c.args.note c.requires).currency in
+    omega (arith, letters-of.first)
 
 pub letter-requires-2 : goal.letter-requires-2
-letter-requires-2 c = omega (arith, (letters-of c.before.before.before.before.before.before.before.before.before.before.before.before.before.before.before.before.before.before.before.before.before.before.before.before).second)
+letter-requires-2 c =
+    let letters-of : Capitals c.args.note.currency = capitals c.args.note.currency (accepted c.args.note c.requires).currency in
+    omega (arith, letters-of.second)
 
 pub letter-requires-3 : goal.letter-requires-3
-letter-requires-3 c = omega (arith, (letters-of c.before.before.before.before.before.before.before.before.before.before.before.before.before.before.before.before.before.before.before.before.before.before.before.before.before).third)
+letter-requires-3 c =
+    let letters-of : Capitals c.args.note.currency = capitals c.args.note.currency (accepted c.args.note c.requires).currency in
+    omega (arith, letters-of.third)
 
 pub returns : goal.returns
 returns c =

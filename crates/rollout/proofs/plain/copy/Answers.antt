@@ -1,8 +1,9 @@
 -- `rollout::copy` meets its contract. The loop's invariant: i places are copied and the others are
 -- as they were. The measure: how many are left.
-use Prim.Native.Nat.{◌-◌}
+use Prim.Native.Nat.{◌-◌, ◌<◌}
 use mathlib.Core.Path.{◌≡◌}
 use native.Mathlib.Omega.{arith}
+use lib.ListN.{length}
 use lib.Ieee.{nan}
 use Rattle.outcome.proofs.Filling.{filled_none, filled_next, filled_part}
 use Rattle.rollout.proofs.plain.copy.Goals as goal
@@ -11,39 +12,61 @@ pub loop-i-init : goal.loop-i-init
 loop-i-init _ = (omega arith, filled_none _ _, filled_none _ _)
 
 pub offset_bounds-kept_days-i : goal.offset_bounds-kept_days-i
-offset_bounds-kept_days-i c = let h = in-days c in omega arith
+offset_bounds-kept_days-i c =
+    let in-days : (i-at ⟪ctx⟫) < length c.loop-i.days = omega (arith, c.loop-i-test.true, c.requires.1, c.loop-i.invariant.1.same_length) in
+    let h = in-days in omega arith
 
 pub bounds-kept_days-i : goal.bounds-kept_days-i
-bounds-kept_days-i c = in-kept-days c.before
+bounds-kept_days-i c =
+    let in-kept-days : (i-at ⟪ctx⟫) < length c.args.kept-days.now = omega (arith, c.loop-i-test.true, c.requires.0) in
+    in-kept-days
 
 pub offset_bounds-days-i : goal.offset_bounds-days-i
-offset_bounds-days-i c = let h = in-days c.before in omega arith
+offset_bounds-days-i c =
+    let in-days : (i-at ⟪ctx⟫) < length c.loop-i.days = omega (arith, c.loop-i-test.true, c.requires.1, c.loop-i.invariant.1.same_length) in
+    let h = in-days in omega arith
 
 pub bounds-days-i : goal.bounds-days-i
-bounds-days-i c = in-days c.before
+bounds-days-i c =
+    let in-days : (i-at ⟪ctx⟫) < length c.loop-i.days = omega (arith, c.loop-i-test.true, c.requires.1, c.loop-i.invariant.1.same_length) in
+    in-days
 
 pub offset_bounds-kept_amounts-i : goal.offset_bounds-kept_amounts-i
-offset_bounds-kept_amounts-i c = let h = in-amounts c.before in omega arith
+offset_bounds-kept_amounts-i c =
+    let in-amounts : (i-at ⟪ctx⟫) < length c.loop-i.amounts = omega (arith, c.loop-i-test.true, c.requires.1, c.loop-i.invariant.2.same_length) in
+    let h = in-amounts in omega arith
 
 pub bounds-kept_amounts-i : goal.bounds-kept_amounts-i
-bounds-kept_amounts-i c = in-kept-amounts c.before.before
+bounds-kept_amounts-i c =
+    let in-kept-amounts : (i-at ⟪ctx⟫) < length c.args.kept-amounts.now = omega (arith, c.loop-i-test.true, c.requires.0) in
+    in-kept-amounts
 
 pub offset_bounds-amounts-i : goal.offset_bounds-amounts-i
-offset_bounds-amounts-i c = let h = in-amounts c.before.before in omega arith
+offset_bounds-amounts-i c =
+    let in-amounts : (i-at ⟪ctx⟫) < length c.loop-i.amounts = omega (arith, c.loop-i-test.true, c.requires.1, c.loop-i.invariant.2.same_length) in
+    let h = in-amounts in omega arith
 
 pub bounds-amounts-i : goal.bounds-amounts-i
-bounds-amounts-i c = in-amounts c.before.before
+bounds-amounts-i c =
+    let in-amounts : (i-at ⟪ctx⟫) < length c.loop-i.amounts = omega (arith, c.loop-i-test.true, c.requires.1, c.loop-i.invariant.2.same_length) in
+    in-amounts
 
 pub overflow_add-i : goal.overflow_add-i
-overflow_add-i c = let h = in-days c.before.before in omega arith
+overflow_add-i c =
+    let in-days : (i-at ⟪ctx⟫) < length c.loop-i.days = omega (arith, c.loop-i-test.true, c.requires.1, c.loop-i.invariant.1.same_length) in
+    let h = in-days in omega arith
 
 pub loop-i-smaller : goal.loop-i-smaller
 loop-i-smaller c = let h = c.loop-i-test.true in omega arith
 
 pub loop-i-preserved : goal.loop-i-preserved
 loop-i-preserved c =
+    let in-kept-days : (i-at ⟪ctx⟫) < length c.args.kept-days.now = omega (arith, c.loop-i-test.true, c.requires.0) in
+    let in-kept-amounts : (i-at ⟪ctx⟫) < length c.args.kept-amounts.now = omega (arith, c.loop-i-test.true, c.requires.0) in
+    let in-days : (i-at ⟪ctx⟫) < length c.loop-i.days = omega (arith, c.loop-i-test.true, c.requires.1, c.loop-i.invariant.1.same_length) in
+    let in-amounts : (i-at ⟪ctx⟫) < length c.loop-i.amounts = omega (arith, c.loop-i-test.true, c.requires.1, c.loop-i.invariant.2.same_length) in
     let l = c.loop-i in
-    (omega (arith, c.loop-i-test.true), filled_next _ _ _ l.i 0 l.days (in-kept-days c.before.before) (in-days c.before.before) l.invariant.1, filled_next _ _ _ l.i nan l.amounts (in-kept-amounts c.before.before) (in-amounts c.before.before) l.invariant.2)
+    (omega (arith, c.loop-i-test.true), filled_next _ _ _ l.i 0 l.days in-kept-days in-days l.invariant.1, filled_next _ _ _ l.i nan l.amounts in-kept-amounts in-amounts l.invariant.2)
 
 pub shape_of-days : goal.shape_of-days
 shape_of-days c = c.loop-i.invariant.1.same_length

@@ -6,14 +6,10 @@ use Rattle.note_flows.proofs.flows.Judging.{judged-by}
 use Rattle.rollout.proofs.plain.rollout_flows.Goals as goal
 
 pub fill-requires : goal.fill-requires
-fill-requires c =
-    let s : tie.Start = c.before.before.before.before.before.before.before.before.before.before in
-    judged-by s.args.note s.args.position s.args.table.now _ _ _ c.is_position-position_in.ensures c.is_table-table_taken.ensures (sym c.check_note_with.ensures ∙ ap note_outcome c.in-Note.is)
+fill-requires c = judged-by c.args.note c.args.position c.args.table.now _ _ _ c.is_position-position_in.ensures c.is_table-table_taken.ensures (sym c.check_note_with.ensures ∙ ap note_outcome c.in-Note.is)
 
 pub returns-in-Note : goal.returns-in-Note
 returns-in-Note c = c.fill.ensures
 
 pub returns-in-Refused : goal.returns-in-Refused
-returns-in-Refused c =
-    let s : tie.Start = c.before.before.before.before.before.before.before.before.before in
-    note-refused s.args.note s.args.position s.args.table.now s.args.days.now s.args.amounts.now _ _ _ c.is_position-position_in.ensures c.is_table-table_taken.ensures (sym c.check_note_with.ensures ∙ ap note_outcome c.in-Refused.is)
+returns-in-Refused c = note-refused c.args.note c.args.position c.args.table.now c.args.days.now c.args.amounts.now _ _ _ c.is_position-position_in.ensures c.is_table-table_taken.ensures (sym c.check_note_with.ensures ∙ ap note_outcome c.in-Refused.is)

@@ -6,14 +6,10 @@ use Rattle.number_text.proofs.write.Putting.{wrote_one, wrote_then}
 use Rattle.term_text.proofs.coupon.put_month.Goals as goal
 
 pub put_padded-requires : goal.put_padded-requires
-put_padded-requires c =
-    let start : tie.Start = c.before.before in
-    simp length-set (omega (arith, start.requires))
+put_padded-requires c = simp length-set (omega (arith, c.requires))
 
 pub shape_of-out : goal.shape_of-out
 shape_of-out c = c.put_padded.auto.1.1.0 ∙ simp length-set
 
 pub returns : goal.returns
-returns c =
-    let start : tie.Start = c.before.before.before.before.before in
-    wrote_then _ _ _ _ _ _ _ _ (wrote_one start.args.out.now start.args.at 46 (omega (arith, start.requires))) c.put_padded.ensures (omega (arith, start.requires))
+returns c = wrote_then _ _ _ _ _ _ _ _ (wrote_one c.args.out.now c.args.at 46 (omega (arith, c.requires))) c.put_padded.ensures (omega (arith, c.requires))

@@ -6,19 +6,11 @@ use Rattle.term_text.proofs.coupon.Texts.{text_length}
 use Rattle.term_text.proofs.coupon.put_text.Goals as goal
 
 pub put_padded-at-requires : goal.put_padded-at-requires
-put_padded-at-requires c =
-    let start : tie.Start = c.before.before.before in
-    omega (arith, start.requires, text_length start.args.c)
+put_padded-at-requires c = omega (arith, c.requires, text_length c.args.c)
 
 pub put_month-requires : goal.put_month-requires
-put_month-requires c =
-    let start : tie.Start = c.before.before.before.before.before.before.before in
-    let day : tie.After-put-padded = c.before.before.before in
-    omega (arith, start.requires, text_length start.args.c, day.put-padded.ensures.1, day.put-padded.auto.1.1.0)
+put_month-requires c = omega (arith, c.requires, text_length c.args.c, c.put_padded-at.ensures.1, c.put_padded-at.auto.1.1.0)
 
 pub returns : goal.returns
 unfolding coupon_date_text
-returns c =
-    let start : tie.Start = c.before.before.before.before.before.before.before.before.before.before in
-    let day : tie.After-put-padded = c.before.before.before.before.before.before in
-    wrote_then _ _ _ _ _ _ _ _ day.put-padded.ensures c.put_month.ensures (omega (arith, start.requires, text_length start.args.c))
+returns c = wrote_then _ _ _ _ _ _ _ _ c.put_padded-at.ensures c.put_month.ensures (omega (arith, c.requires, text_length c.args.c))

@@ -7,11 +7,6 @@ use Rattle.number_text.specs.read.Reading.{number_outcome, unsigned_number}
 use Rattle.term_text.specs.coupon.CouponTexts.{up_to_dot, after_dot, month_part, day_part}
 use Rattle.outcome.proofs.Lists.{part_from}
 use Rattle.term_text.proofs.coupon.read_day.Goals as goal
-use Rattle.term_text.proofs.coupon.read_day.Goals.{After-read_u32}
-
--- what was read stands before the dot
-read : (c : After-read_u32) → number_outcome c.read_u32.result ≡ unsigned_number 6 (up_to_dot c.args.s.now)
-read c = c.read_u32.ensures ∙ ap (unsigned_number 6) c.dot_at-dot.ensures.first
 
 pub returns-then-s-dot : goal.returns-then-s-dot
 unfolding day_part
@@ -23,14 +18,12 @@ slice_bounds-read_u32-end c = sym (length-take-le _ _ c.dot_at-dot.ensures.withi
 pub returns-in-Number : goal.returns-in-Number
 unfolding day_part
 returns-in-Number c =
-    let start : tie.Start = c.before.before.before.before.before.before.before.before.before.before in
-    let dot : tie.After-dot-at = c.before.before.before.before.before.before.before.before in
-    let there = dot.dot_at.ensures.there c.if-s-dot.false in
-    rw there.0 (c.read_month.ensures ∙ ap (month_part c.in-Number.day) (part_from start.args.s.now _ ∙ there.1) ∙ ap (λ (o : Outcome ℕ). and_then o (λ d. month_part d (after_dot start.args.s.now))) (ap number_outcome (sym c.in-Number.is) ∙ read (goal.at.returns-in-Number c).After-read_u32))
+    let read : number_outcome c.read_u32.result ≡ unsigned_number 6 (up_to_dot c.args.s.now) = c.read_u32.ensures ∙ ap (unsigned_number 6) c.dot_at-dot.ensures.first in
+    let there = c.dot_at-dot.ensures.there c.if-s-dot.false in
+    rw there.0 (c.read_month.ensures ∙ ap (month_part c.in-Number.day) (part_from c.args.s.now _ ∙ there.1) ∙ ap (λ (o : Outcome ℕ). and_then o (λ d. month_part d (after_dot c.args.s.now))) (ap number_outcome (sym c.in-Number.is) ∙ read))
 
 pub returns-in-Refused : goal.returns-in-Refused
 unfolding day_part
 returns-in-Refused c =
-    let start : tie.Start = c.before.before.before.before.before.before.before.before in
-    let dot : tie.After-dot-at = c.before.before.before.before.before.before in
-    rw (dot.dot_at.ensures.there c.if-s-dot.false).0 (ap (λ (o : Outcome ℕ). and_then o (λ d. month_part d (after_dot start.args.s.now))) (ap number_outcome (sym c.in-Refused.is) ∙ read (goal.at.returns-in-Refused c).After-read_u32))
+    let read : number_outcome c.read_u32.result ≡ unsigned_number 6 (up_to_dot c.args.s.now) = c.read_u32.ensures ∙ ap (unsigned_number 6) c.dot_at-dot.ensures.first in
+    rw (c.dot_at-dot.ensures.there c.if-s-dot.false).0 (ap (λ (o : Outcome ℕ). and_then o (λ d. month_part d (after_dot c.args.s.now))) (ap number_outcome (sym c.in-Refused.is) ∙ read))

@@ -7,11 +7,7 @@ pub overflow_add-result : goal.overflow_add-result
 overflow_add-result c = omega (arith, c.padded_length-day.ensures, padded_most c.args.c.day (omega arith))
 
 pub overflow_add-result-2 : goal.overflow_add-result-2
-overflow_add-result-2 c =
-    let start : tie.Start = c.before.before.before.before in
-    omega (arith, c.padded_length.ensures, c.padded_length-day.ensures, padded_most start.args.c.day (omega arith), padded_most start.args.c.month (omega arith))
+overflow_add-result-2 c = omega (arith, c.padded_length.ensures, c.padded_length-day.ensures, padded_most c.args.c.day (omega arith), padded_most c.args.c.month (omega arith))
 
 pub returns : goal.returns
-returns c =
-    let start : tie.Start = c.before.before.before.before in
-    omega (arith, c.padded_length.ensures, c.padded_length-day.ensures, text_length start.args.c)
+returns c = omega (arith, c.padded_length.ensures, c.padded_length-day.ensures, text_length c.args.c)

@@ -4,11 +4,7 @@ use Rattle.number_text.proofs.write.Writers.{written_fits, written_refused}
 use Rattle.term_text.proofs.coupon.write_coupon_date.Goals as goal
 
 pub returns-then-out-text_length : goal.returns-then-out-text_length
-returns-then-out-text_length c =
-    let start : tie.Start = c.before.before.before in
-    written_refused start.args.out.now _ (omega (arith, c.text_length.ensures, c.if-out-text_length.true))
+returns-then-out-text_length c = written_refused c.args.out.now _ (omega (arith, c.text_length.ensures, c.if-out-text_length.true))
 
 pub returns : goal.returns
-returns c =
-    let start : tie.Start = c.before.before.before.before.before.before.before in
-    written_fits start.args.out.now _ _ _ c.put_text.ensures (omega arith)
+returns c = written_fits c.args.out.now _ _ _ c.put_text.ensures (omega arith)

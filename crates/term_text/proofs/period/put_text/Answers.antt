@@ -12,32 +12,25 @@ use Rattle.term_text.specs.period.PeriodTexts.{period_text}
 use Rattle.time_period.proofs.steps.Signs.{told}
 use Rattle.term_text.proofs.period.Texts.{text_length}
 use Rattle.term_text.proofs.period.put_text.Goals as goal
-use Rattle.term_text.proofs.period.put_text.Goals.{After-put_signed-at}
-
--- the number is written
-wrote : (c : After-put_signed-at) → Wrote c.args.out.now c.put_signed-at.new.1.0 0 (signed_text c.args.p.num) c.put_signed-at.result
-wrote c = rw (to_z-of_z (told c.args.p.num c.struct_told-1.given.0.1)) at c.put_signed-at.ensures
 
 pub put_signed-at-requires : goal.put_signed-at-requires
-put_signed-at-requires c =
-    let s : tie.Start = c.before.before.before in
-    rw (to_z-of_z (told s.args.p.num c.struct_told-1.given.0.1)) (omega (arith, s.requires, text_length s.args.p))
+put_signed-at-requires c = rw (to_z-of_z (told c.args.p.num c.struct_told-1.given.0.1)) (omega (arith, c.requires, text_length c.args.p))
 
 pub bounds-out-at : goal.bounds-out-at
 bounds-out-at c =
-    let s : tie.Start = c.before.before.before.before.before.before.before in
-    omega (arith, s.requires, text_length s.args.p, (wrote (goal.at.bounds-out-at c).After-put_signed-at).1, c.put_signed-at.auto.1.0)
+    let wrote : Wrote c.args.out.now c.put_signed-at.new.1.0 0 (signed_text c.args.p.num) c.put_signed-at.result = rw (to_z-of_z (told c.args.p.num c.struct_told-1.given.0.1)) at c.put_signed-at.ensures in
+    omega (arith, c.requires, text_length c.args.p, wrote.1, c.put_signed-at.auto.1.0)
 
 pub overflow_add-result : goal.overflow_add-result
 overflow_add-result c =
-    let s : tie.Start = c.before.before.before.before.before.before.before in
-    omega (arith, s.requires, text_length s.args.p, (wrote (goal.at.overflow_add-result c).After-put_signed-at).1)
+    let wrote : Wrote c.args.out.now c.put_signed-at.new.1.0 0 (signed_text c.args.p.num) c.put_signed-at.result = rw (to_z-of_z (told c.args.p.num c.struct_told-1.given.0.1)) at c.put_signed-at.ensures in
+    omega (arith, c.requires, text_length c.args.p, wrote.1)
 
 pub returns : goal.returns
 unfolding period_text
 returns c =
-    let s : tie.Start = c.before.before.before.before.before.before.before in
-    let room : c.put_signed-at.result < length c.put_signed-at.new.1.0 = omega (arith, s.requires, text_length s.args.p, (wrote (goal.at.returns c).After-put_signed-at).1, c.put_signed-at.auto.1.0) in
+    let wrote : Wrote c.args.out.now c.put_signed-at.new.1.0 0 (signed_text c.args.p.num) c.put_signed-at.result = rw (to_z-of_z (told c.args.p.num c.struct_told-1.given.0.1)) at c.put_signed-at.ensures in
+    let room : c.put_signed-at.result < length c.put_signed-at.new.1.0 = omega (arith, c.requires, text_length c.args.p, wrote.1, c.put_signed-at.auto.1.0) in
     let letter = wrote_one _ c.put_signed-at.result c.letter.result room in
-    wrote_is _ _ _ _ _ _ (wrote_then _ _ _ _ _ _ _ _ (wrote (goal.at.returns c).After-put_signed-at) letter (omega (arith, s.requires, text_length s.args.p)))
-    (ap (λ (v : ℕ). signed_text s.args.p.num ++ (v ∷ [])) c.letter.ensures)
+    wrote_is _ _ _ _ _ _ (wrote_then _ _ _ _ _ _ _ _ wrote letter (omega (arith, c.requires, text_length c.args.p)))
+    (ap (λ (v : ℕ). signed_text c.args.p.num ++ (v ∷ [])) c.letter.ensures)

@@ -18,12 +18,9 @@ made u n = given (record { num = n; unit = u })
 pub returns-in-Number : goal.returns-in-Number
 unfolding number_part
 returns-in-Number c =
-    let s : tie.Start = c.before.before.before.before.before in
-    ap {B = Outcome TimePeriod} (λ (z : ℤ). given (record { num = z; unit = s.args.unit })) (to_z-of_z (told c.in-Number.num c.known_told-1.given.0.1))
-    ∙ ap (λ (o : Outcome ℤ). and_then o (made s.args.unit)) (ap signed_outcome (sym c.in-Number.is) ∙ c.read_i32.ensures)
+    ap {B = Outcome TimePeriod} (λ (z : ℤ). given (record { num = z; unit = c.args.unit })) (to_z-of_z (told c.in-Number.num c.known_told-1.given.0.1))
+    ∙ ap (λ (o : Outcome ℤ). and_then o (made c.args.unit)) (ap signed_outcome (sym c.in-Number.is) ∙ c.read_i32.ensures)
 
 pub returns-in-Refused : goal.returns-in-Refused
 unfolding number_part
-returns-in-Refused c =
-    let s : tie.Start = c.before.before.before.before.before in
-    ap (λ (o : Outcome ℤ). and_then o (made s.args.unit)) (ap signed_outcome (sym c.in-Refused.is) ∙ c.read_i32.ensures)
+returns-in-Refused c = ap (λ (o : Outcome ℤ). and_then o (made c.args.unit)) (ap signed_outcome (sym c.in-Refused.is) ∙ c.read_i32.ensures)

@@ -26,4 +26,4 @@ returns-in-89 c = rw c.in-89.is
 
 pub returns-in_default : goal.returns-in_default
 unfolding unit_of_letter
-returns-in_default c = rw (ne_eqb _ 68 c.in_default-own.rest.0.0.0.0.1, ne_eqb _ 66 c.in_default-own.rest.0.0.0.1, ne_eqb _ 87 c.in_default-own.rest.0.0.1, ne_eqb _ 77 c.in_default-own.rest.0.1, ne_eqb _ 89 c.in_default-own.rest.1)
+returns-in_default c = rw (ne_eqb _ 68 c.in_default.in_default-own.rest.0.0.0.0.1, ne_eqb _ 66 c.in_default.in_default-own.rest.0.0.0.1, ne_eqb _ 87 c.in_default.in_default-own.rest.0.0.1, ne_eqb _ 77 c.in_default.in_default-own.rest.0.1, ne_eqb _ 89 c.in_default.in_default-own.rest.1)

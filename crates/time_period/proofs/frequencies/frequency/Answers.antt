@@ -10,6 +10,7 @@ use mir.Facts.{to_z-of_z}
 use denote.Enum.Declared.{tag_of}
 use Rattle.outcome.specs.Outcome.{given, refused}
 use types.Run.{OneOf}
+use borrow.Enum.Refused.{opened}
 use Rattle.time_period.specs.steps.Periods.{months_frequency, years_frequency, unit_frequency, frequency_of}
 use Rattle.time_period.specs.declared.steps.TimePeriodUnit.TheVariants.{Daily, BusinessDaily, Weekly, Monthly, Annual}
 use Rattle.time_period.specs.declared.steps.TimePeriodUnit.{TimePeriodUnit}
@@ -27,20 +28,18 @@ none Annual n k = absurd (⊎_elim (λ e. omega arith) (λ m. ⊎_elim (λ e. om
 
 pub returns-in-Daily : goal.returns-in-Daily
 unfolding frequency_of
-returns-in-Daily c = none c.args.p.unit _ c.in-Daily-own.keys1
+returns-in-Daily c = none c.args.p.unit _ (opened c.in-Daily.in-Daily-own.keys1)
 
 pub returns-in-Monthly : goal.returns-in-Monthly
 unfolding frequency_of
 returns-in-Monthly c =
-    let s : tie.Start = c.before.before.before.before.before in
     c.months_frequency.ensures
-    ∙ ap months_frequency (c.magnitude.ensures ∙ ap nat_abs (to_z-of_z (told s.args.p.num c.struct_told-1.given.0.1)))
-    ∙ ap (λ (u : TimePeriodUnit). unit_frequency u (nat_abs s.args.p.num)) (sym c.in-Monthly.is)
+    ∙ ap months_frequency (c.magnitude.ensures ∙ ap nat_abs (to_z-of_z (told c.args.p.num c.struct_told-1.given.0.1)))
+    ∙ ap (λ (u : TimePeriodUnit). unit_frequency u (nat_abs c.args.p.num)) (sym c.in-Monthly.is)
 
 pub returns-in-Annual : goal.returns-in-Annual
 unfolding frequency_of
 returns-in-Annual c =
-    let s : tie.Start = c.before.before.before.before.before in
     c.years_frequency.ensures
-    ∙ ap years_frequency (c.magnitude-in-Annual.ensures ∙ ap nat_abs (to_z-of_z (told s.args.p.num c.struct_told-in-Annual-1.given.0.1)))
-    ∙ ap (λ (u : TimePeriodUnit). unit_frequency u (nat_abs s.args.p.num)) (sym c.in-Annual.is)
+    ∙ ap years_frequency (c.magnitude-in-Annual.ensures ∙ ap nat_abs (to_z-of_z (told c.args.p.num c.struct_told-in-Annual-1.given.0.1)))
+    ∙ ap (λ (u : TimePeriodUnit). unit_frequency u (nat_abs c.args.p.num)) (sym c.in-Annual.is)

@@ -22,4 +22,4 @@ returns-in-12 c = rw c.in-12.is
 
 pub returns-in_default : goal.returns-in_default
 unfolding months_frequency
-returns-in_default c = rw (ne_eqb _ 1 c.in_default-own.rest.0.0.0.1, ne_eqb _ 3 c.in_default-own.rest.0.0.1, ne_eqb _ 6 c.in_default-own.rest.0.1, ne_eqb _ 12 c.in_default-own.rest.1)
+returns-in_default c = rw (ne_eqb _ 1 c.in_default.in_default-own.rest.0.0.0.1, ne_eqb _ 3 c.in_default.in_default-own.rest.0.0.1, ne_eqb _ 6 c.in_default.in_default-own.rest.0.1, ne_eqb _ 12 c.in_default.in_default-own.rest.1)

@@ -14,9 +14,7 @@ pub overflow_cast-p : goal.overflow_cast-p
 overflow_cast-p c = wide_fits _ (told c.args.p.num c.struct_told-1.given.0.1)
 
 pub days_later-requires : goal.days_later-requires
-days_later-requires c =
-    let s : tie.Start = c.before.before.before.before in
-    (s.requires, wide_short _ (told s.args.p.num c.struct_told-1.given.0.1))
+days_later-requires c = (c.requires, wide_short _ (told c.args.p.num c.struct_told-1.given.0.1))
 
 pub overflow_cast-p-in-Weekly : goal.overflow_cast-p-in-Weekly
 overflow_cast-p-in-Weekly c = wide_fits _ (told c.args.p.num c.struct_told-in-Weekly-1.given.0.1)
@@ -25,16 +23,13 @@ pub overflow_mul-p : goal.overflow_mul-p
 overflow_mul-p c = weeks_fit _ (told c.args.p.num c.struct_told-in-Weekly-1.given.0.1)
 
 pub days_later-requires-in-Weekly : goal.days_later-requires-in-Weekly
-days_later-requires-in-Weekly c =
-    let s : tie.Start = c.before.before.before.before in
-    (s.requires, weeks_short _ (told s.args.p.num c.struct_told-in-Weekly-1.given.0.1))
+days_later-requires-in-Weekly c = (c.requires, weeks_short _ (told c.args.p.num c.struct_told-in-Weekly-1.given.0.1))
 
 pub returns-in-Daily : goal.returns-in-Daily
 returns-in-Daily c =
-    let s : tie.Start = c.before.before.before.before.before in
     c.days_later.ensures
-    ∙ ap (days_later s.args.t) (widened _ (told s.args.p.num c.struct_told-1.given.0.1))
-    ∙ ap (λ (u : TimePeriodUnit). unit_step u s.args.p.num absent s.args.t) (sym c.in-Daily.is)
+    ∙ ap (days_later c.args.t) (widened _ (told c.args.p.num c.struct_told-1.given.0.1))
+    ∙ ap (λ (u : TimePeriodUnit). unit_step u c.args.p.num absent c.args.t) (sym c.in-Daily.is)
 
 pub returns-in-BusinessDaily : goal.returns-in-BusinessDaily
 unfolding business_step
@@ -42,21 +37,18 @@ returns-in-BusinessDaily c = ap (λ (u : TimePeriodUnit). unit_step u c.args.p.n
 
 pub returns-in-Weekly : goal.returns-in-Weekly
 returns-in-Weekly c =
-    let s : tie.Start = c.before.before.before.before.before in
     c.days_later-in-Weekly.ensures
-    ∙ ap (days_later s.args.t) (weeks_read _ (told s.args.p.num c.struct_told-in-Weekly-1.given.0.1))
-    ∙ ap (λ (u : TimePeriodUnit). unit_step u s.args.p.num absent s.args.t) (sym c.in-Weekly.is)
+    ∙ ap (days_later c.args.t) (weeks_read _ (told c.args.p.num c.struct_told-in-Weekly-1.given.0.1))
+    ∙ ap (λ (u : TimePeriodUnit). unit_step u c.args.p.num absent c.args.t) (sym c.in-Weekly.is)
 
 pub returns-in-Monthly : goal.returns-in-Monthly
 returns-in-Monthly c =
-    let s : tie.Start = c.before.before.before.before in
     c.months_later.ensures
-    ∙ ap (months_later s.args.t) (to_z-of_z (told s.args.p.num c.struct_told-in-Monthly-1.given.0.1))
-    ∙ ap (λ (u : TimePeriodUnit). unit_step u s.args.p.num absent s.args.t) (sym c.in-Monthly.is)
+    ∙ ap (months_later c.args.t) (to_z-of_z (told c.args.p.num c.struct_told-in-Monthly-1.given.0.1))
+    ∙ ap (λ (u : TimePeriodUnit). unit_step u c.args.p.num absent c.args.t) (sym c.in-Monthly.is)
 
 pub returns-in-Annual : goal.returns-in-Annual
 returns-in-Annual c =
-    let s : tie.Start = c.before.before.before.before in
     c.years_later.ensures
-    ∙ ap (years_later s.args.t) (to_z-of_z (told s.args.p.num c.struct_told-in-Annual-1.given.0.1))
-    ∙ ap (λ (u : TimePeriodUnit). unit_step u s.args.p.num absent s.args.t) (sym c.in-Annual.is)
+    ∙ ap (years_later c.args.t) (to_z-of_z (told c.args.p.num c.struct_told-in-Annual-1.given.0.1))
+    ∙ ap (λ (u : TimePeriodUnit). unit_step u c.args.p.num absent c.args.t) (sym c.in-Annual.is)

@@ -9,6 +9,7 @@ use mir.Facts.{to_z-of_z}
 use denote.Enum.Declared.{tag_of}
 use Rattle.calendar.specs.declared.dates.Date.{Date}
 use types.Run.{OneOf}
+use borrow.Enum.Refused.{opened}
 use Rattle.time_period.specs.steps.Steps.{absent, table, unit_step, business_step}
 use Rattle.time_period.specs.declared.steps.TimePeriodUnit.TheVariants.{Daily, BusinessDaily, Weekly, Monthly, Annual}
 use Rattle.time_period.specs.declared.steps.TimePeriodUnit.{TimePeriodUnit}
@@ -26,13 +27,10 @@ other Annual n h t k = refl
 
 pub returns-in-BusinessDaily : goal.returns-in-BusinessDaily
 returns-in-BusinessDaily c =
-    let s : tie.Start = c.before.before.before.before.before in
-    let h = table s.args.holidays.now in
+    let h = table c.args.holidays.now in
     c.step_business.ensures
-    ∙ ap (λ (z : ℤ). business_step z h s.args.t) (to_z-of_z (told s.args.p.num c.struct_told-1.given.0.1))
-    ∙ ap (λ (u : TimePeriodUnit). unit_step u s.args.p.num h s.args.t) (sym c.in-BusinessDaily.is)
+    ∙ ap (λ (z : ℤ). business_step z h c.args.t) (to_z-of_z (told c.args.p.num c.struct_told-1.given.0.1))
+    ∙ ap (λ (u : TimePeriodUnit). unit_step u c.args.p.num h c.args.t) (sym c.in-BusinessDaily.is)
 
 pub returns : goal.returns
-returns c =
-    let s : tie.Start = c.before.before.before in
-    c.step.ensures ∙ other s.args.p.unit _ _ _ c.in_default-own.keys2
+returns c = c.step.ensures ∙ other c.args.p.unit _ _ _ (opened c.in_default.in_default-own.keys2)

@@ -23,10 +23,10 @@ loop-i-init c =
     (omega arith, omega arith, rw (z) (sym (bytes-none a.s.now a.first)))
 
 pub overflow_mul-n : goal.overflow_mul-n
-overflow_mul-n c = record { fits = omega (arith, small c) }
+overflow_mul-n c = record { fits = omega (arith, small (goal.at.overflow_mul-n c).In-loop-i) }
 
 pub overflow_add-n : goal.overflow_add-n
-overflow_add-n c = record { fits = omega (arith, small c.before.before, c.wide.ensures.1) }
+overflow_add-n c = record { fits = omega (arith, small (goal.at.overflow_add-n c).In-loop-i, c.wide.ensures.1) }
 
 pub loop-i-preserved : goal.loop-i-preserved
 loop-i-preserved c =

@@ -1,6 +1,5 @@
 -- `bit_fields::put_part` meets its contract: the bits at hand and the field's go out as whole
 -- bytes, and fewer than eight stay.
-use Prim.Native.Nat.{◌-◌}
 use mathlib.Core.Path.{refl}
 use native.Mathlib.Omega.{arith}
 use Rattle.bit_fields.proofs.BitWriters.{flushed_none, flushed_place, flushed_byte, flushed_more, gathered_below, gathered_fits, field_put}

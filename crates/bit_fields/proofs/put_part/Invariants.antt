@@ -1,4 +1,3 @@
-use Prim.Native.Nat.{◌-◌}
 use Rattle.bit_fields.proofs.BitWriters.{Flushed}
 use Rattle.bit_fields.proofs.put_part.Given as goal
 

@@ -1,6 +1,5 @@
 -- `packed_layout::read_numbers` meets its contract: after each turn the numbers so far stand in
 -- front, and the next field begins at `at`.
-use Prim.Native.Nat.{◌-◌}
 use mathlib.Core.Path.{◌≡◌, refl}
 use native.Mathlib.Omega.{arith}
 use Rattle.outcome.proofs.Filling.{filled_none}
@@ -12,17 +11,11 @@ use Rattle.packed_layout.proofs.read_numbers.Goals as goal
 pub loop-k-init : goal.loop-k-init
 loop-k-init c = (omega arith, c.widths-widths.ensures, refl, filled_none _ _)
 
-pub offset_bounds-widths-k : goal.offset_bounds-widths-k
-offset_bounds-widths-k _ = record { fits = omega arith }
-
 pub read_field-requires : goal.read_field-requires
 read_field-requires c =
     let l = c.loop-k in
     let h = position-within note_widths l.k (omega arith) in
     rw l.invariant.1 (width-most l.k (omega arith), omega (arith, h, l.invariant.2), omega (arith, h, l.invariant.2, c.requires))
-
-pub offset_bounds-numbers-k : goal.offset_bounds-numbers-k
-offset_bounds-numbers-k _ = record { fits = omega arith }
 
 pub overflow_add-at : goal.overflow_add-at
 overflow_add-at c =

@@ -1,5 +1,4 @@
 -- `decimal::leading_zeros` meets its contract: each zero passed is one of the count. Laws of Zeros.
-use Prim.Native.Nat.{◌-◌}
 use native.Mathlib.Omega.{arith}
 use Rattle.decimal.proofs.big_digits.Zeros.{zeros_more, zeros_stop, zeros_end}
 use Rattle.decimal.proofs.big_digits.leading_zeros.Goals as goal

@@ -10,7 +10,7 @@ use Rattle.decimal.proofs.big_digits.put_scaled.Goals as goal
 pub loop-left-init : goal.loop-left-init
 loop-left-init c =
     let none : c.args.twos - c.args.twos ≡ 0 = omega arith in
-    (omega arith, c.put_digits.auto.1.1.0, rw (none) (scaled_start _ _ _ c.put_digits.ensures.0))
+    (omega arith, c.put_digits.auto.out, rw (none) (scaled_start _ _ _ c.put_digits.ensures.0))
 
 pub multiply-requires : goal.multiply-requires
 multiply-requires c = omega (arith, c.power_of_two.ensures)
@@ -18,7 +18,7 @@ multiply-requires c = omega (arith, c.power_of_two.ensures)
 pub loop-left-preserved : goal.loop-left-preserved
 loop-left-preserved c =
     let l = c.loop-left in
-    (omega arith, c.multiply.auto.1.0 ∙ l.invariant.1, scaled_more _ _ _ _ _ _ 48 _ l.invariant.1 l.invariant.2 c.power_of_two.ensures (omega arith) c.multiply.ensures)
+    (omega arith, c.multiply.auto.out ∙ l.invariant.1, scaled_more _ _ _ _ _ _ 48 _ l.invariant.1 l.invariant.2 c.power_of_two.ensures (omega arith) c.multiply.ensures)
 
 pub multiply-requires-2 : goal.multiply-requires-2
 multiply-requires-2 c = rw c.power_of_two-2.ensures (pow_mono {j = 48} (omega arith))
@@ -26,7 +26,7 @@ multiply-requires-2 c = rw c.power_of_two-2.ensures (pow_mono {j = 48} (omega ar
 pub shape_of-out : goal.shape_of-out
 shape_of-out c =
     let l = c.loop-left in
-    c.multiply-2.auto.1.0 ∙ l.invariant.1
+    c.multiply-2.auto.out ∙ l.invariant.1
 
 pub returns : goal.returns
 returns c =

@@ -7,7 +7,7 @@ use Rattle.decimal.proofs.float.decimal_length.Goals as goal
 pub large_length-requires : goal.large_length-requires
 large_length-requires c =
     let p = subst (PartsOf c.args.x) c.in-Large.is c.parts_of.ensures in
-    (p.3, p.4)
+    record { n_bound = p.3; twos_bound = p.4 }
 
 pub returns-in-Small : goal.returns-in-Small
 returns-in-Small c =

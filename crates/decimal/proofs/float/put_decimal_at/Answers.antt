@@ -10,31 +10,26 @@ use Rattle.decimal.proofs.float.put_decimal_at.Goals as goal
 
 pub put_small-requires : goal.put_small-requires
 put_small-requires c =
-    let start : tie.Start = c.before.before.before.before.before.before in
-    let p = subst (PartsOf start.args.x) c.in-Small.is c.parts_of.ensures in
+    let p = subst (PartsOf c.args.x) c.in-Small.is c.parts_of.ensures in
     let same = ap length (text_is _ _ _ p.1 p.2) in
-    omega (arith, start.requires.1, same)
+    omega (arith, c.requires.x_in_bounds, same)
 
 pub returns-in-Small : goal.returns-in-Small
 returns-in-Small c =
-    let start : tie.Start = c.before.before.before.before.before.before.before.before.before in
-    let p = subst (PartsOf start.args.x) c.in-Small.is c.parts_of.ensures in
+    let p = subst (PartsOf c.args.x) c.in-Small.is c.parts_of.ensures in
     wrote_is _ _ _ _ _ _ c.put_small.ensures (text_is _ _ _ p.1 p.2)
 
 pub put_large-requires : goal.put_large-requires
 put_large-requires c =
-    let start : tie.Start = c.before.before.before.before.before.before in
-    let p = subst (PartsOf start.args.x) c.in-Large.is c.parts_of.ensures in
+    let p = subst (PartsOf c.args.x) c.in-Large.is c.parts_of.ensures in
     let same = ap length (text_is _ _ _ p.1 p.2) in
-    (p.3, (p.4, omega (arith, start.requires.1, same)))
+    record { n_bound = p.3; twos_bound = p.4; twos_in_bounds = omega (arith, c.requires.x_in_bounds, same) }
 
 pub returns-in-Large : goal.returns-in-Large
 returns-in-Large c =
-    let start : tie.Start = c.before.before.before.before.before.before.before.before.before in
-    let p = subst (PartsOf start.args.x) c.in-Large.is c.parts_of.ensures in
+    let p = subst (PartsOf c.args.x) c.in-Large.is c.parts_of.ensures in
     wrote_is _ _ _ _ _ _ c.put_large.ensures (text_is _ _ _ p.1 p.2)
 
 pub returns-in-NotFinite : goal.returns-in-NotFinite
 returns-in-NotFinite c =
-    let start : tie.Start = c.before.before.before.before in
-    absurd (true≢false (sym start.requires.0 ∙ subst (PartsOf start.args.x) c.in-NotFinite.is c.parts_of.ensures))
+    absurd (true≢false (sym c.requires.x_value ∙ subst (PartsOf c.args.x) c.in-NotFinite.is c.parts_of.ensures))

@@ -12,13 +12,12 @@ slice_bounds-size_by_digits-end c = sym (length-take-le _ _ (omega (arith, c.dig
 
 pub size_by_digits-requires : goal.size_by_digits-requires
 size_by_digits-requires c =
-    let start : tie.Start = c.before.before in
-    part_enough (replicate 347 48) c.digits_enough-count.result _ _ refl c.digits_enough-count.ensures start.requires.1 start.requires.0
+    let enough = part_enough (replicate 347 48) c.digits_enough-count.result c.args.n c.args.twos refl c.digits_enough-count.ensures c.requires.twos_bound c.requires.n_bound in
+    record { in_bounds = enough.0; twos_bound = enough.1 }
 
 pub columns-requires : goal.columns-requires
 columns-requires c = omega (arith, c.size_by_digits.ensures.1)
 
 pub returns : goal.returns
 returns c =
-    let start : tie.Start = c.before.before.before.before.before in
-    omega (arith, c.columns.ensures, c.size_by_digits.ensures.0, signed_long start.args.negative (start.args.n * 2 ^ start.args.twos))
+    omega (arith, c.columns.ensures, c.size_by_digits.ensures.0, signed_long c.args.negative (c.args.n * 2 ^ c.args.twos))

@@ -6,13 +6,9 @@ use Rattle.decimal.proofs.four_decimals.put_by_digits.Goals as goal
 
 pub put_array-requires : goal.put_array-requires
 put_array-requires c =
-    let start : tie.Start = c.before.before.before.before.before.before.before.before in
-    let scaled : tie.After-put-scaled = c.before.before.before.before in
-    let text = filled_text start.args.space.now _ _ start.requires.0.0 scaled.put-scaled.auto.1.1.0 scaled.put-scaled.ensures start.requires.1.0 start.args.negative in
-    (search rules, rw (text) start.requires.1.1)
+    let text = filled_text c.args.space.now _ _ c.requires.in_bounds.0 c.put_scaled.auto.out c.put_scaled.ensures c.requires.twos_bound c.args.negative in
+    record { in_bounds = search rules; d_in_bounds = rw (text) c.requires.twos_in_bounds }
 
 pub returns : goal.returns
 returns c =
-    let start : tie.Start = c.before.before.before.before.before.before.before.before.before.before.before in
-    let scaled : tie.After-put-scaled = c.before.before.before.before.before.before.before in
-    wrote_is _ _ _ _ _ _ c.put_array.ensures (filled_text start.args.space.now _ _ start.requires.0.0 scaled.put-scaled.auto.1.1.0 scaled.put-scaled.ensures start.requires.1.0 start.args.negative)
+    wrote_is _ _ _ _ _ _ c.put_array.ensures (filled_text c.args.space.now _ _ c.requires.in_bounds.0 c.put_scaled.auto.out c.put_scaled.ensures c.requires.twos_bound c.args.negative)

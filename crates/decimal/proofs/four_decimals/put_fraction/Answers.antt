@@ -8,13 +8,11 @@ use Rattle.decimal.proofs.four_decimals.put_fraction.Goals as goal
 
 pub put_digits-requires : goal.put_digits-requires
 put_digits-requires c =
-    let start : tie.Start = c.before.before in
-    simp length-set (omega (arith, start.requires))
+    simp length-set (omega (arith, c.requires))
 
 pub shape_of-out : goal.shape_of-out
-shape_of-out c = c.put_digits.auto.1.1.0 ∙ simp length-set
+shape_of-out c = c.put_digits.auto.out ∙ simp length-set
 
 pub returns : goal.returns
 returns c =
-    let start : tie.Start = c.before.before.before.before.before in
-    wrote_then _ _ _ _ _ _ _ _ (wrote_one start.args.out.now start.args.at 46 (omega (arith, start.requires))) c.put_digits.ensures (omega (arith, start.requires, length_digits 4 start.args.tens))
+    wrote_then _ _ _ _ _ _ _ _ (wrote_one c.args.out.now c.args.at 46 (omega (arith, c.requires))) c.put_digits.ensures (omega (arith, c.requires, length_digits 4 c.args.tens))

@@ -11,6 +11,5 @@ slice_bounds-put_by_digits-end c = sym (length-take-le _ _ (omega (arith, c.digi
 
 pub put_by_digits-requires : goal.put_by_digits-requires
 put_by_digits-requires c =
-    let start : tie.Start = c.before.before.before.before in
-    let enough = part_enough (replicate 347 48) c.digits_enough-count.result start.args.n start.args.twos refl c.digits_enough-count.ensures start.requires.1.0 start.requires.0 in
-    (enough.0, (enough.1, start.requires.1.1))
+    let enough = part_enough (replicate 347 48) c.digits_enough-count.result c.args.n c.args.twos refl c.digits_enough-count.ensures c.requires.twos_bound c.requires.n_bound in
+    record { in_bounds = enough.0; twos_bound = enough.1; twos_in_bounds = c.requires.twos_in_bounds }

@@ -6,5 +6,4 @@ use Rattle.decimal.proofs.four_decimals.put_pointed.Goals as goal
 
 pub returns : goal.returns
 returns c =
-    let start : tie.Start = c.before.before.before.before.before.before.before.before.before.before.before in
-    wrote_then _ _ _ _ _ _ _ _ c.put_bytes-next.ensures c.put_last_four.ensures (omega (arith, start.requires.1, pointed_room start.args.d.now start.args.start start.requires.0))
+    wrote_then _ _ _ _ _ _ _ _ c.put_bytes-next.ensures c.put_last_four.ensures (omega (arith, c.requires.start_in_bounds_2, pointed_room c.args.d.now c.args.start c.requires.start_in_bounds))

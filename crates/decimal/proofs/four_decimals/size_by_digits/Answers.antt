@@ -5,13 +5,9 @@ use Rattle.decimal.proofs.four_decimals.size_by_digits.Goals as goal
 
 pub overflow_sub-result : goal.overflow_sub-result
 overflow_sub-result c =
-    let start : tie.Start = c.before.before.before.before.before.before.before in
-    let scaled : tie.After-put-scaled = c.before.before.before.before in
-    omega (arith, c.whole_start.ensures, scaled.put-scaled.auto.1.1.0, filled_start start.args.space.now _ _ start.requires.0.0 scaled.put-scaled.auto.1.1.0 scaled.put-scaled.ensures start.requires.1)
+    omega (arith, c.whole_start.ensures, c.put_scaled.auto.out, filled_start c.args.space.now _ _ c.requires.in_bounds.0 c.put_scaled.auto.out c.put_scaled.ensures c.requires.twos_bound)
 
 pub returns : goal.returns
 returns c =
-    let start : tie.Start = c.before.before.before.before.before.before.before in
-    let scaled : tie.After-put-scaled = c.before.before.before.before in
-    let from = filled_start start.args.space.now _ _ start.requires.0.0 scaled.put-scaled.auto.1.1.0 scaled.put-scaled.ensures start.requires.1 in
-    (omega (arith, c.whole_start.ensures, scaled.put-scaled.auto.1.1.0, from), omega (arith, start.requires.0.1, scaled.put-scaled.auto.1.1.0))
+    let from = filled_start c.args.space.now _ _ c.requires.in_bounds.0 c.put_scaled.auto.out c.put_scaled.ensures c.requires.twos_bound in
+    (omega (arith, c.whole_start.ensures, c.put_scaled.auto.out, from), omega (arith, c.requires.in_bounds.1, c.put_scaled.auto.out))

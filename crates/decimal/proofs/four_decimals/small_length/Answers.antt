@@ -9,15 +9,12 @@ returns-then-tens-lt100000000000000 c = columns_filled c.args.negative c.args.te
 
 pub overflow_add-decimal_length : goal.overflow_add-decimal_length
 overflow_add-decimal_length c =
-    let start : tie.Start = c.before.before in
-    omega (arith, c.decimal_length.ensures, whole_short start.args.tens (omega arith))
+    omega (arith, c.decimal_length.ensures, whole_short c.args.tens (omega arith))
 
 pub columns-requires : goal.columns-requires
 columns-requires c =
-    let start : tie.Start = c.before.before in
-    omega (arith, c.decimal_length.ensures, whole_short start.args.tens (omega arith))
+    omega (arith, c.decimal_length.ensures, whole_short c.args.tens (omega arith))
 
 pub returns : goal.returns
 returns c =
-    let start : tie.Start = c.before.before.before in
-    omega (arith, c.columns.ensures, c.decimal_length.ensures, signed_long start.args.negative start.args.tens, four_long start.args.tens)
+    omega (arith, c.columns.ensures, c.decimal_length.ensures, signed_long c.args.negative c.args.tens, four_long c.args.tens)

@@ -26,10 +26,10 @@ pub returns-then-b-gt57 : goal.returns-then-b-gt57
 returns-then-b-gt57 c = remaining_bad _ _ _ c.loop-k.k c.args.s.now _ c.loop-k.invariant.2 (omega arith) (digit_high _ c.if-b-gt57.true)
 
 pub returns-then-limit-v : goal.returns-then-limit-v
-returns-then-limit-v c = remaining_past _ _ _ _ _ (more c.before) c.if-limit-v.true
+returns-then-limit-v c = remaining_past _ _ _ _ _ (more (goal.at.returns-then-limit-v c).Else-b-gt57) c.if-limit-v.true
 
 pub loop-k-preserved : goal.loop-k-preserved
-loop-k-preserved c = (omega arith, c.if-limit-v.false, more c.before)
+loop-k-preserved c = (omega arith, c.if-limit-v.false, more (goal.at.loop-k-preserved c).Else-b-gt57)
 
 pub returns : goal.returns
 returns c = remaining_end _ _ _ c.loop-k.k c.args.s.now _ c.loop-k.invariant.2 (omega arith) c.loop-k.invariant.1

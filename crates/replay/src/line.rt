@@ -232,22 +232,18 @@ fn put_number(n: u64, out: &mut [u8], at: usize) -> usize {
     number_text::put_digits(n, k, out, at)
 }
 
-// The last `width` digits of n in hex.
+// The last `width` digits of n in hex, at most 16.
 fn put_hex(n: u64, width: usize, out: &mut [u8], at: usize) -> usize {
-    if out.len() < width {
-        return at;
-    }
-    if out.len() - width < at {
-        return at;
-    }
-    let mut i = width;
+    let mut digits = [0u8; 16];
+    let mut i: usize = 16;
     let mut rest = n;
     while 0 < i {
         i -= 1;
-        out[at + i] = digit((rest % 16) as u8);
+        digits[i] = digit((rest % 16) as u8);
         rest = rest / 16;
     }
-    at + width
+    let first = 16 - lent::at_most(width, 16);
+    put_bytes(&digits[first..], out, at)
 }
 
 fn put_word(front: u8, form: u8, n: u64, out: &mut [u8], at: usize) -> usize {

@@ -5,7 +5,7 @@ use lib.ListN.{length}
 use Rattle.replay.proofs.line.put_hex.Given as goal
 
 abbrev pub invariant-loop-i : goal.invariant-loop-i
-invariant-loop-i l = (l.i ≤ l.width) × (length l.out ≡ length l.initial.out)
+invariant-loop-i l = (l.i ≤ 16) × (length l.digits ≡ 16)
 
 abbrev pub decreases-loop-i : goal.decreases-loop-i
 decreases-loop-i l = l.i

@@ -69,8 +69,8 @@ pub fn rolled_from(t: Date, p: TimePeriod) -> NoteTerms
 // Inner: a fraction by 30/360 or 30E/360, refused 9 where it is 0; asks for dates in order.
 pub(crate) fn unless_zero(start: Date, end: Date, fraction: f64) -> YearFraction
     requires { Span start end }
-    ensures result_value { fraction_outcome result ≡ unless (not (impossible simple.D30_360 start end)) 9 (given fraction) }
-    ensures result_value_2 { fraction_outcome result ≡ unless (not (impossible simple.D30E360 start end)) 9 (given fraction) }
+    ensures of_30_360 { fraction_outcome result ≡ unless (not (impossible simple.D30_360 start end)) 9 (given fraction) }
+    ensures of_30_e_360 { fraction_outcome result ≡ unless (not (impossible simple.D30E360 start end)) 9 (given fraction) }
 {
     if day_fraction::is_30th_to_31st(start, end) {
         return YearFraction::Refused(outcome::IMPOSSIBLE_360);

@@ -10,7 +10,7 @@ use cash_flow::{Currency, FlowsAnswer};
 use coupon_date::{CouponAnswer, CouponDate};
 use day_adjust::DayAdjust;
 use day_count_conv::{DayCountConv, NoteTerms, RollDate, RollPeriod, YearFraction};
-use libc::STDOUT_FILENO;
+use std::io::Stdout;
 use time_period::{PeriodAnswer, TimePeriod, TimePeriodUnit};
 
 // 2021-08-01, from which the tables list every day.
@@ -23,106 +23,106 @@ struct Tally {
     wrong: u32,
 }
 
-fn print_bytes(s: &[u8]) {
-    io::write_all(STDOUT_FILENO, s);
+fn print_bytes(stdout: Stdout, s: &[u8]) {
+    let _ = stdout.write_all(s);
 }
 
-fn print_byte(b: u8) {
-    print_bytes(&[b]);
+fn print_byte(stdout: Stdout, b: u8) {
+    print_bytes(stdout, &[b]);
 }
 
-fn print_number(n: u64) {
-    io::print_decimal(STDOUT_FILENO, n);
+fn print_number(stdout: Stdout, n: u64) {
+    let _ = stdout.print(n);
 }
 
 // A text in room of zeros that is longer, without the blanks in front of a number.
-fn print_text(s: &[u8]) {
+fn print_text(stdout: Stdout, s: &[u8]) {
     let mut i: usize = 0;
     while i < s.len() {
         let b = s[i];
         if b != 0 && b != b' ' {
-            print_byte(b);
+            print_byte(stdout, b);
         }
         i += 1;
     }
 }
 
-fn print_date(t: Date) {
+fn print_date(stdout: Stdout, t: Date) {
     let mut out = [0u8; 32];
     flow_text::write_date(t, &mut out);
-    print_text(&out);
+    print_text(stdout, &out);
 }
 
-fn print_period(p: TimePeriod) {
+fn print_period(stdout: Stdout, p: TimePeriod) {
     let mut out = [0u8; 32];
     term_text::write_period(p, &mut out);
-    print_text(&out);
+    print_text(stdout, &out);
 }
 
-fn print_coupon(c: CouponDate) {
+fn print_coupon(stdout: Stdout, c: CouponDate) {
     let mut out = [0u8; 32];
     term_text::write_coupon_date(c, &mut out);
-    print_text(&out);
+    print_text(stdout, &out);
 }
 
 // Four decimals.
-fn print_amount(x: f64) {
+fn print_amount(stdout: Stdout, x: f64) {
     let mut out = [0u8; 32];
     decimal::write_decimal(x, &mut out);
-    print_text(&out);
+    print_text(stdout, &out);
 }
 
-fn print_rule(c: DayCountConv) {
+fn print_rule(stdout: Stdout, c: DayCountConv) {
     match c {
-        DayCountConv::Act365l => print_bytes(b"act/365 leap, "),
-        DayCountConv::D30_360 => print_bytes(b"30/360, "),
-        DayCountConv::D30E360 => print_bytes(b"30E/360, "),
-        DayCountConv::ActActICMA => print_bytes(b"ICMA, "),
-        _ => print_bytes(b"another rule, "),
+        DayCountConv::Act365l => print_bytes(stdout, b"act/365 leap, "),
+        DayCountConv::D30_360 => print_bytes(stdout, b"30/360, "),
+        DayCountConv::D30E360 => print_bytes(stdout, b"30E/360, "),
+        DayCountConv::ActActICMA => print_bytes(stdout, b"ICMA, "),
+        _ => print_bytes(stdout, b"another rule, "),
     }
 }
 
-fn print_adjustment(r: DayAdjust) {
+fn print_adjustment(stdout: Stdout, r: DayAdjust) {
     match r {
-        DayAdjust::Following => print_bytes(b"following "),
-        DayAdjust::Modified => print_bytes(b"modified "),
-        _ => print_bytes(b"another rule "),
+        DayAdjust::Following => print_bytes(stdout, b"following "),
+        DayAdjust::Modified => print_bytes(stdout, b"modified "),
+        _ => print_bytes(stdout, b"another rule "),
     }
 }
 
 // More than 100, even where four decimals do not show it.
-fn print_rate(x: f64) {
+fn print_rate(stdout: Stdout, x: f64) {
     if 100.0 < x {
-        print_byte(b'>');
+        print_byte(stdout, b'>');
     }
-    print_amount(x);
+    print_amount(stdout, x);
 }
 
 // Its issue, coupon date, period and rate.
-fn print_note(n: Note) {
+fn print_note(stdout: Stdout, n: Note) {
     let coupon_date = n.coupon_date;
     let coupon_period = n.period;
-    print_bytes(b", issued ");
-    print_date(n.issue_date);
-    print_byte(b' ');
-    print_coupon(coupon_date);
-    print_byte(b' ');
-    print_period(coupon_period);
-    print_byte(b' ');
-    print_rate(n.rate);
-    print_byte(b'%');
+    print_bytes(stdout, b", issued ");
+    print_date(stdout, n.issue_date);
+    print_byte(stdout, b' ');
+    print_coupon(stdout, coupon_date);
+    print_byte(stdout, b' ');
+    print_period(stdout, coupon_period);
+    print_byte(stdout, b' ');
+    print_rate(stdout, n.rate);
+    print_byte(stdout, b'%');
 }
 
 // Ends a question's line.
-fn ended(c: Tally, good: bool) -> Tally {
+fn ended(stdout: Stdout, c: Tally, good: bool) -> Tally {
     if good {
-        print_bytes(b" ok\n");
+        print_bytes(stdout, b" ok\n");
         return Tally {
             good: std::num::wrapping_add_u32(c.good, 1),
             wrong: c.wrong,
         };
     }
-    print_bytes(b" WRONG\n");
+    print_bytes(stdout, b" WRONG\n");
     Tally {
         good: c.good,
         wrong: std::num::wrapping_add_u32(c.wrong, 1),
@@ -130,15 +130,15 @@ fn ended(c: Tally, good: bool) -> Tally {
 }
 
 // Ends a question.
-fn end_question() {
-    print_byte(b':');
-    print_byte(b' ');
+fn end_question(stdout: Stdout) {
+    print_byte(stdout, b':');
+    print_byte(stdout, b' ');
 }
 
-fn told_refusal(c: Tally, n: u32, want: u32) -> Tally {
-    print_bytes(b"refused ");
-    print_number(n as u64);
-    ended(c, n == want)
+fn told_refusal(stdout: Stdout, c: Tally, n: u32, want: u32) -> Tally {
+    print_bytes(stdout, b"refused ");
+    print_number(stdout, n as u64);
+    ended(stdout, c, n == want)
 }
 
 // The date that eight digits write.
@@ -151,51 +151,51 @@ fn date_in(n: u32) -> Date {
 }
 
 // Wanted is a date's eight digits, or a refusal's number.
-fn told_date(c: Tally, got: DateAnswer, want: u32) -> Tally {
-    end_question();
+fn told_date(stdout: Stdout, c: Tally, got: DateAnswer, want: u32) -> Tally {
+    end_question(stdout);
     match got {
         DateAnswer::Date(t) => {
-            print_date(t);
-            ended(c, calendar::is_same(t, date_in(want)))
+            print_date(stdout, t);
+            ended(stdout, c, calendar::is_same(t, date_in(want)))
         }
-        DateAnswer::Refused(n) => told_refusal(c, n, want),
+        DateAnswer::Refused(n) => told_refusal(stdout, c, n, want),
     }
 }
 
 // Wanted is an f64 and 0, or 0 and a refusal's number. No zero and no NaN is wanted, so that equal
 // numbers have equal bits.
-fn told_amount(c: Tally, got: YearFraction, want: f64, number: u32) -> Tally {
-    end_question();
+fn told_amount(stdout: Stdout, c: Tally, got: YearFraction, want: f64, number: u32) -> Tally {
+    end_question(stdout);
     match got {
         YearFraction::Fraction(x) => {
-            print_amount(x);
-            ended(c, number == 0 && x == want)
+            print_amount(stdout, x);
+            ended(stdout, c, number == 0 && x == want)
         }
-        YearFraction::Refused(n) => told_refusal(c, n, number),
+        YearFraction::Refused(n) => told_refusal(stdout, c, n, number),
     }
 }
 
 // Wanted is a day and two digits of a month, or a refusal's number.
-fn told_coupon(c: Tally, got: CouponAnswer, want: u32) -> Tally {
-    end_question();
+fn told_coupon(stdout: Stdout, c: Tally, got: CouponAnswer, want: u32) -> Tally {
+    end_question(stdout);
     match got {
         CouponAnswer::Coupon(d) => {
-            print_coupon(d);
-            ended(c, d.day == want / 100 && d.month == want % 100)
+            print_coupon(stdout, d);
+            ended(stdout, c, d.day == want / 100 && d.month == want % 100)
         }
-        CouponAnswer::Refused(n) => told_refusal(c, n, want),
+        CouponAnswer::Refused(n) => told_refusal(stdout, c, n, want),
     }
 }
 
 // Wanted is a count of flows and 0, or 0 and a refusal's number.
-fn told_flows(c: Tally, got: FlowsAnswer, want: usize, number: u32) -> Tally {
-    end_question();
+fn told_flows(stdout: Stdout, c: Tally, got: FlowsAnswer, want: usize, number: u32) -> Tally {
+    end_question(stdout);
     match got {
         FlowsAnswer::Flows(k) => {
-            print_number(k as u64);
-            ended(c, number == 0 && k == want)
+            print_number(stdout, k as u64);
+            ended(stdout, c, number == 0 && k == want)
         }
-        FlowsAnswer::Refused(n) => told_refusal(c, n, number),
+        FlowsAnswer::Refused(n) => told_refusal(stdout, c, n, number),
     }
 }
 
@@ -215,67 +215,85 @@ fn period_of(num: i32, letter: u8) -> TimePeriod {
 }
 
 // The card's letter.
-fn print_row(b: u8) {
-    print_byte(b);
-    print_byte(b' ');
+fn print_row(stdout: Stdout, b: u8) {
+    print_byte(stdout, b);
+    print_byte(stdout, b' ');
 }
 
 // The date of a serial day.
-fn ask_day(c: Tally, n: u32, want: u32) -> Tally {
-    print_bytes(b"- day ");
-    print_number(n as u64);
-    told_date(c, calendar::date_of(Day(n)), want)
+fn ask_day(stdout: Stdout, c: Tally, n: u32, want: u32) -> Tally {
+    print_bytes(stdout, b"- day ");
+    print_number(stdout, n as u64);
+    told_date(stdout, c, calendar::date_of(Day(n)), want)
 }
 
 // A period added, or with '-' subtracted.
-fn ask_step(c: Tally, row: u8, from: u32, sign: u8, num: i32, unit: u8, want: u32) -> Tally {
+fn ask_step(
+    stdout: Stdout,
+    c: Tally,
+    row: u8,
+    from: u32,
+    sign: u8,
+    num: i32,
+    unit: u8,
+    want: u32,
+) -> Tally {
     let t = date_in(from);
     let p = period_of(num, unit);
-    print_row(row);
-    print_date(t);
-    print_byte(b' ');
-    print_byte(sign);
-    print_period(p);
+    print_row(stdout, row);
+    print_date(stdout, t);
+    print_byte(stdout, b' ');
+    print_byte(stdout, sign);
+    print_period(stdout, p);
     if sign == b'-' {
-        return told_date(c, time_period::sub_from(p, t), want);
+        return told_date(stdout, c, time_period::sub_from(p, t), want);
     }
-    told_date(c, time_period::add_to(p, t), want)
+    told_date(stdout, c, time_period::add_to(p, t), want)
 }
 
 // dd.mm text.
-fn ask_coupon(c: Tally, s: &[u8], want: u32) -> Tally {
-    print_bytes(b"- coupon ");
-    print_bytes(s);
-    told_coupon(c, term_text::read_coupon_date(s), want)
+fn ask_coupon(stdout: Stdout, c: Tally, s: &[u8], want: u32) -> Tally {
+    print_bytes(stdout, b"- coupon ");
+    print_bytes(stdout, s);
+    told_coupon(stdout, c, term_text::read_coupon_date(s), want)
 }
 
 // A period's text; each that is asked is to be refused.
-fn ask_period(c: Tally, s: &[u8], want: u32) -> Tally {
-    print_bytes(b"- period ");
-    print_bytes(s);
-    end_question();
+fn ask_period(stdout: Stdout, c: Tally, s: &[u8], want: u32) -> Tally {
+    print_bytes(stdout, b"- period ");
+    print_bytes(stdout, s);
+    end_question(stdout);
     match term_text::read_period(s) {
         PeriodAnswer::Period(p) => {
-            print_period(p);
-            ended(c, false)
+            print_period(stdout, p);
+            ended(stdout, c, false)
         }
-        PeriodAnswer::Refused(n) => told_refusal(c, n, want),
+        PeriodAnswer::Refused(n) => told_refusal(stdout, c, n, want),
     }
 }
 
 // A date adjusted under a table.
-fn ask_adjusted(c: Tally, row: u8, rule: DayAdjust, on: u32, table: &[u32], want: u32) -> Tally {
+fn ask_adjusted(
+    stdout: Stdout,
+    c: Tally,
+    row: u8,
+    rule: DayAdjust,
+    on: u32,
+    table: &[u32],
+    want: u32,
+) -> Tally {
     let t = date_in(on);
-    print_row(row);
-    print_adjustment(rule);
-    print_date(t);
-    print_bytes(b", holidays ");
-    print_number(table.len() as u64);
-    told_date(c, day_adjust::adjust_date(rule, t, table), want)
+    print_row(stdout, row);
+    print_adjustment(stdout, rule);
+    print_date(stdout, t);
+    print_bytes(stdout, b", holidays ");
+    print_number(stdout, table.len() as u64);
+    told_date(stdout, c, day_adjust::adjust_date(rule, t, table), want)
 }
 
 // Two dates under a rule.
 fn ask_between(
+    stdout: Stdout,
     c: Tally,
     rule: DayCountConv,
     start: u32,
@@ -286,14 +304,15 @@ fn ask_between(
 ) -> Tally {
     let s = date_in(start);
     let e = date_in(end);
-    print_date(s);
-    print_bytes(b" to ");
-    print_date(e);
+    print_date(stdout, s);
+    print_bytes(stdout, b" to ");
+    print_date(stdout, e);
     let got = day_count_conv::year_fraction(rule, s, e, x);
-    told_amount(c, got, want, number)
+    told_amount(stdout, c, got, want, number)
 }
 
 fn ask_fraction(
+    stdout: Stdout,
     c: Tally,
     row: u8,
     rule: DayCountConv,
@@ -302,9 +321,10 @@ fn ask_fraction(
     want: f64,
     number: u32,
 ) -> Tally {
-    print_row(row);
-    print_rule(rule);
+    print_row(stdout, row);
+    print_rule(stdout, rule);
     ask_between(
+        stdout,
         c,
         rule,
         start,
@@ -317,6 +337,7 @@ fn ask_fraction(
 
 // ICMA, rolled from a date by months.
 fn ask_icma(
+    stdout: Stdout,
     c: Tally,
     row: u8,
     months: i32,
@@ -328,13 +349,14 @@ fn ask_icma(
 ) -> Tally {
     let p = period_of(months, b'M');
     let t = date_in(roll);
-    print_row(row);
-    print_bytes(b"ICMA ");
-    print_period(p);
-    print_bytes(b", roll ");
-    print_date(t);
-    print_bytes(b", ");
+    print_row(stdout, row);
+    print_bytes(stdout, b"ICMA ");
+    print_period(stdout, p);
+    print_bytes(stdout, b", roll ");
+    print_date(stdout, t);
+    print_bytes(stdout, b", ");
     ask_between(
+        stdout,
         c,
         DayCountConv::ActActICMA,
         start,
@@ -346,16 +368,25 @@ fn ask_icma(
 }
 
 // ICMA, rolled from a date, but by no period.
-fn ask_unperioded(c: Tally, roll: u32, start: u32, end: u32, number: u32) -> Tally {
+fn ask_unperioded(stdout: Stdout, c: Tally, roll: u32, start: u32, end: u32, number: u32) -> Tally {
     let t = date_in(roll);
     let x = NoteTerms {
         roll: RollDate::Date(t),
         period: RollPeriod::Absent,
     };
-    print_bytes(b"- ICMA, roll ");
-    print_date(t);
-    print_bytes(b", ");
-    ask_between(c, DayCountConv::ActActICMA, start, end, x, 0.0, number)
+    print_bytes(stdout, b"- ICMA, roll ");
+    print_date(stdout, t);
+    print_bytes(stdout, b", ");
+    ask_between(
+        stdout,
+        c,
+        DayCountConv::ActActICMA,
+        start,
+        end,
+        x,
+        0.0,
+        number,
+    )
 }
 
 // A note of 1000 EUR, 30E/360, modified, with its coupons in July.
@@ -382,13 +413,22 @@ fn note_of(rate: f64, issue: u32, maturity: u32, day: u32, num: i32, unit: u8) -
 }
 
 // The interest accrued on a day.
-fn ask_accrued(c: Tally, row: u8, n: Note, on: u32, want: f64, number: u32) -> Tally {
+fn ask_accrued(
+    stdout: Stdout,
+    c: Tally,
+    row: u8,
+    n: Note,
+    on: u32,
+    want: f64,
+    number: u32,
+) -> Tally {
     let today = date_in(on);
-    print_row(row);
-    print_bytes(b"accrued ");
-    print_date(today);
-    print_note(n);
+    print_row(stdout, row);
+    print_bytes(stdout, b"accrued ");
+    print_date(stdout, today);
+    print_note(stdout, n);
     told_amount(
+        stdout,
         c,
         accrued_interest::accrued_interest(n, today),
         want,
@@ -405,25 +445,35 @@ fn flows_of(n: Note) -> FlowsAnswer {
 }
 
 // The flows that a note pays.
-fn ask_flows(c: Tally, n: Note, want: usize, number: u32) -> Tally {
-    print_bytes(b"- flows");
-    print_note(n);
-    told_flows(c, flows_of(n), want, number)
+fn ask_flows(stdout: Stdout, c: Tally, n: Note, want: usize, number: u32) -> Tally {
+    print_bytes(stdout, b"- flows");
+    print_note(stdout, n);
+    told_flows(stdout, c, flows_of(n), want, number)
 }
 
 // a to f: steps.
-fn card_steps(c: Tally) -> Tally {
-    let c = ask_step(c, b'a', 20240229, b'+', 12, b'M', 20250228);
-    let c = ask_step(c, b'b', 20240229, b'+', 1, b'Y', 1);
-    let c = ask_step(c, b'c', 20210131, b'+', 1, b'M', 20210228);
-    let c = ask_step(c, b'd', 20210228, b'-', 1, b'M', 20210128);
-    ask_step(c, b'f', 99991201, b'+', 1, b'M', 1)
+fn card_steps(stdout: Stdout, c: Tally) -> Tally {
+    let c = ask_step(stdout, c, b'a', 20240229, b'+', 12, b'M', 20250228);
+    let c = ask_step(stdout, c, b'b', 20240229, b'+', 1, b'Y', 1);
+    let c = ask_step(stdout, c, b'c', 20210131, b'+', 1, b'M', 20210228);
+    let c = ask_step(stdout, c, b'd', 20210228, b'-', 1, b'M', 20210128);
+    ask_step(stdout, c, b'f', 99991201, b'+', 1, b'M', 1)
 }
 
 // g to k: fractions.
-fn card_fractions(c: Tally) -> Tally {
-    let c = ask_fraction(c, b'g', DayCountConv::D30_360, 20210130, 20210131, 0.0, 9);
+fn card_fractions(stdout: Stdout, c: Tally) -> Tally {
     let c = ask_fraction(
+        stdout,
+        c,
+        b'g',
+        DayCountConv::D30_360,
+        20210130,
+        20210131,
+        0.0,
+        9,
+    );
+    let c = ask_fraction(
+        stdout,
         c,
         b'h',
         DayCountConv::D30_360,
@@ -433,6 +483,7 @@ fn card_fractions(c: Tally) -> Tally {
         0,
     );
     let c = ask_fraction(
+        stdout,
         c,
         b'i',
         DayCountConv::D30_360,
@@ -442,6 +493,7 @@ fn card_fractions(c: Tally) -> Tally {
         0,
     );
     let c = ask_fraction(
+        stdout,
         c,
         b'i',
         DayCountConv::D30E360,
@@ -451,6 +503,7 @@ fn card_fractions(c: Tally) -> Tally {
         0,
     );
     let c = ask_fraction(
+        stdout,
         c,
         b'j',
         DayCountConv::Act365l,
@@ -460,6 +513,7 @@ fn card_fractions(c: Tally) -> Tally {
         0,
     );
     ask_icma(
+        stdout,
         c,
         b'k',
         12,
@@ -477,22 +531,30 @@ fn rated(rate: f64) -> Note {
 }
 
 // l and m: an adjusted date, and accrued interest.
-fn card_note(c: Tally) -> Tally {
+fn card_note(stdout: Stdout, c: Tally) -> Tally {
     let table: [u32; 0] = [];
-    let c = ask_adjusted(c, b'l', DayAdjust::Modified, 20210731, &table, 20210730);
-    ask_accrued(c, b'm', rated(4.0), 20210415, 9.94475138121547, 0)
+    let c = ask_adjusted(
+        stdout,
+        c,
+        b'l',
+        DayAdjust::Modified,
+        20210731,
+        &table,
+        20210730,
+    );
+    ask_accrued(stdout, c, b'm', rated(4.0), 20210415, 9.94475138121547, 0)
 }
 
 // The calendar's last day and the next; 15 months back, both ways; and the least number of a
 // period, which has no negative.
-fn limit_days(c: Tally) -> Tally {
-    let c = ask_day(c, 3652059, 99991231);
-    let c = ask_day(c, 3652060, 1);
-    let c = ask_day(c, 0, 1);
-    let c = ask_step(c, b'-', 20210315, b'-', 15, b'M', 20191215);
-    let c = ask_step(c, b'-', 20210315, b'+', -15, b'M', 20191215);
-    let c = ask_step(c, b'-', 20210315, b'+', -2147483648, b'D', 1);
-    ask_step(c, b'-', 20210315, b'-', -2147483648, b'D', 4)
+fn limit_days(stdout: Stdout, c: Tally) -> Tally {
+    let c = ask_day(stdout, c, 3652059, 99991231);
+    let c = ask_day(stdout, c, 3652060, 1);
+    let c = ask_day(stdout, c, 0, 1);
+    let c = ask_step(stdout, c, b'-', 20210315, b'-', 15, b'M', 20191215);
+    let c = ask_step(stdout, c, b'-', 20210315, b'+', -15, b'M', 20191215);
+    let c = ask_step(stdout, c, b'-', 20210315, b'+', -2147483648, b'D', 1);
+    ask_step(stdout, c, b'-', 20210315, b'-', -2147483648, b'D', 4)
 }
 
 // 4,097 days, of which a table takes 4,096.
@@ -511,9 +573,10 @@ fn listed() -> [u32; 4097]
 }
 
 // A table of 4,096 days, behind which the next business day lies; and of 4,097.
-fn limit_tables(c: Tally) -> Tally {
+fn limit_tables(stdout: Stdout, c: Tally) -> Tally {
     let table = listed();
     let c = ask_adjusted(
+        stdout,
         c,
         b'-',
         DayAdjust::Following,
@@ -521,21 +584,56 @@ fn limit_tables(c: Tally) -> Tally {
         &table[..4096],
         20321018,
     );
-    ask_adjusted(c, b'-', DayAdjust::Following, 20210731, &table, 13)
+    ask_adjusted(stdout, c, b'-', DayAdjust::Following, 20210731, &table, 13)
 }
 
 // Rate 100 and the next f64; and a zero with its sign bit set.
-fn limit_rates(c: Tally) -> Tally {
-    let c = ask_accrued(c, b'-', rated(100.0), 20210415, 248.61878453038673, 0);
-    let c = ask_accrued(c, b'-', rated(100.00000000000001), 20210415, 0.0, 15);
-    ask_accrued(c, b'-', rated(-0.0), 20210415, 0.0, 15)
+fn limit_rates(stdout: Stdout, c: Tally) -> Tally {
+    let c = ask_accrued(
+        stdout,
+        c,
+        b'-',
+        rated(100.0),
+        20210415,
+        248.61878453038673,
+        0,
+    );
+    let c = ask_accrued(
+        stdout,
+        c,
+        b'-',
+        rated(100.00000000000001),
+        20210415,
+        0.0,
+        15,
+    );
+    ask_accrued(stdout, c, b'-', rated(-0.0), 20210415, 0.0, 15)
 }
 
 // Months subtracted as u32.
-fn slip_months(c: Tally) -> Tally {
-    let c = ask_fraction(c, b'-', DayCountConv::D30_360, 20201101, 20210201, 0.25, 0);
-    let c = ask_fraction(c, b'-', DayCountConv::D30E360, 20201101, 20210201, 0.25, 0);
+fn slip_months(stdout: Stdout, c: Tally) -> Tally {
+    let c = ask_fraction(
+        stdout,
+        c,
+        b'-',
+        DayCountConv::D30_360,
+        20201101,
+        20210201,
+        0.25,
+        0,
+    );
+    let c = ask_fraction(
+        stdout,
+        c,
+        b'-',
+        DayCountConv::D30E360,
+        20201101,
+        20210201,
+        0.25,
+        0,
+    );
     ask_fraction(
+        stdout,
         c,
         b'-',
         DayCountConv::D30_360,
@@ -547,17 +645,23 @@ fn slip_months(c: Tally) -> Tally {
 }
 
 // `day as u8`, in a text and in a note.
-fn slip_coupon_days(c: Tally) -> Tally {
-    let c = ask_coupon(c, b"1.07", 107);
-    let c = ask_coupon(c, b"257.07", 8);
-    let c = ask_coupon(c, b"29.02", 8);
-    ask_flows(c, note_of(4.0, 20210115, 20220115, 257, 6, b'M'), 0, 8)
+fn slip_coupon_days(stdout: Stdout, c: Tally) -> Tally {
+    let c = ask_coupon(stdout, c, b"1.07", 107);
+    let c = ask_coupon(stdout, c, b"257.07", 8);
+    let c = ask_coupon(stdout, c, b"29.02", 8);
+    ask_flows(
+        stdout,
+        c,
+        note_of(4.0, 20210115, 20220115, 257, 6, b'M'),
+        0,
+        8,
+    )
 }
 
 // A missing dot.
-fn slip_dots(c: Tally) -> Tally {
-    let c = ask_coupon(c, b"15", 6);
-    ask_coupon(c, b"1507", 6)
+fn slip_dots(stdout: Stdout, c: Tally) -> Tally {
+    let c = ask_coupon(stdout, c, b"15", 6);
+    ask_coupon(stdout, c, b"1507", 6)
 }
 
 // A note with a period of none.
@@ -567,37 +671,50 @@ fn still(unit: u8) -> Note {
 
 // A zero period, in a rollout, in accrued interest and in one ICMA fraction; the note's own period
 // has three flows.
-fn slip_zero_periods(c: Tally) -> Tally {
-    let c = ask_flows(c, rated(4.0), 3, 0);
-    let c = ask_flows(c, still(b'D'), 0, 14);
-    let c = ask_flows(c, still(b'W'), 0, 14);
-    let c = ask_flows(c, still(b'M'), 0, 14);
-    let c = ask_flows(c, still(b'Y'), 0, 14);
-    let c = ask_accrued(c, b'-', still(b'M'), 20210415, 0.0, 14);
-    ask_icma(c, b'-', 0, 20220101, 20210301, 20210601, 0.0, 5)
+fn slip_zero_periods(stdout: Stdout, c: Tally) -> Tally {
+    let c = ask_flows(stdout, c, rated(4.0), 3, 0);
+    let c = ask_flows(stdout, c, still(b'D'), 0, 14);
+    let c = ask_flows(stdout, c, still(b'W'), 0, 14);
+    let c = ask_flows(stdout, c, still(b'M'), 0, 14);
+    let c = ask_flows(stdout, c, still(b'Y'), 0, 14);
+    let c = ask_accrued(stdout, c, b'-', still(b'M'), 20210415, 0.0, 14);
+    ask_icma(stdout, c, b'-', 0, 20220101, 20210301, 20210601, 0.0, 5)
 }
 
 // A date past the range under D and W, in a step and in a rollout.
-fn slip_range(c: Tally) -> Tally {
-    let c = ask_step(c, b'-', 99991231, b'+', 1, b'D', 1);
-    let c = ask_step(c, b'-', 99991231, b'+', 1, b'W', 1);
-    let c = ask_step(c, b'-', 10101, b'-', 1, b'D', 1);
-    let c = ask_step(c, b'-', 10101, b'-', 1, b'W', 1);
-    let c = ask_flows(c, note_of(4.0, 99990101, 99991231, 15, 200, b'D'), 0, 1);
-    ask_flows(c, note_of(4.0, 99990101, 99991231, 15, 30, b'W'), 0, 1)
+fn slip_range(stdout: Stdout, c: Tally) -> Tally {
+    let c = ask_step(stdout, c, b'-', 99991231, b'+', 1, b'D', 1);
+    let c = ask_step(stdout, c, b'-', 99991231, b'+', 1, b'W', 1);
+    let c = ask_step(stdout, c, b'-', 10101, b'-', 1, b'D', 1);
+    let c = ask_step(stdout, c, b'-', 10101, b'-', 1, b'W', 1);
+    let c = ask_flows(
+        stdout,
+        c,
+        note_of(4.0, 99990101, 99991231, 15, 200, b'D'),
+        0,
+        1,
+    );
+    ask_flows(
+        stdout,
+        c,
+        note_of(4.0, 99990101, 99991231, 15, 30, b'W'),
+        0,
+        1,
+    )
 }
 
 // The refusals that no listed note meets: of texts, and of fractions.
-fn other_texts(c: Tally) -> Tally {
-    let c = ask_period(c, b"M", 2);
-    let c = ask_period(c, b"6m", 3);
-    let c = ask_period(c, b"+M", 4);
-    let c = ask_period(c, b" 1M", 4);
-    ask_coupon(c, b"15", 6)
+fn other_texts(stdout: Stdout, c: Tally) -> Tally {
+    let c = ask_period(stdout, c, b"M", 2);
+    let c = ask_period(stdout, c, b"6m", 3);
+    let c = ask_period(stdout, c, b"+M", 4);
+    let c = ask_period(stdout, c, b" 1M", 4);
+    ask_coupon(stdout, c, b"15", 6)
 }
 
-fn other_fractions(c: Tally) -> Tally {
+fn other_fractions(stdout: Stdout, c: Tally) -> Tally {
     let c = ask_fraction(
+        stdout,
         c,
         b'-',
         DayCountConv::ActActICMA,
@@ -606,34 +723,51 @@ fn other_fractions(c: Tally) -> Tally {
         0.0,
         10,
     );
-    let c = ask_unperioded(c, 20210101, 20210101, 20210301, 11);
-    ask_fraction(c, b'-', DayCountConv::D30_360, 20210301, 20210101, 0.0, 19)
+    let c = ask_unperioded(stdout, c, 20210101, 20210101, 20210301, 11);
+    ask_fraction(
+        stdout,
+        c,
+        b'-',
+        DayCountConv::D30_360,
+        20210301,
+        20210101,
+        0.0,
+        19,
+    )
 }
 
-fn card(c: Tally) -> Tally {
-    print_bytes(b"The desk card\n");
-    card_note(card_fractions(card_steps(c)))
+fn card(stdout: Stdout, c: Tally) -> Tally {
+    print_bytes(stdout, b"The desk card\n");
+    card_note(stdout, card_fractions(stdout, card_steps(stdout, c)))
 }
 
-fn limits(c: Tally) -> Tally {
-    print_bytes(b"The limits\n");
-    limit_rates(limit_tables(limit_days(c)))
+fn limits(stdout: Stdout, c: Tally) -> Tally {
+    print_bytes(stdout, b"The limits\n");
+    limit_rates(stdout, limit_tables(stdout, limit_days(stdout, c)))
 }
 
-fn slips(c: Tally) -> Tally {
-    print_bytes(b"The slips\n");
-    slip_range(slip_zero_periods(slip_dots(slip_coupon_days(slip_months(c)))))
+fn slips(stdout: Stdout, c: Tally) -> Tally {
+    print_bytes(stdout, b"The slips\n");
+    slip_range(
+        stdout,
+        slip_zero_periods(
+            stdout,
+            slip_dots(stdout, slip_coupon_days(stdout, slip_months(stdout, c))),
+        ),
+    )
 }
 
-fn others(c: Tally) -> Tally {
-    print_bytes(b"The other refusals\n");
-    other_fractions(other_texts(c))
+fn others(stdout: Stdout, c: Tally) -> Tally {
+    print_bytes(stdout, b"The other refusals\n");
+    other_fractions(stdout, other_texts(stdout, c))
 }
 
-fn main() {
-    let c = others(slips(limits(card(Tally { good: 0, wrong: 0 }))));
-    print_number(c.good as u64);
-    print_bytes(b" as written, ");
-    print_number(c.wrong as u64);
-    print_bytes(b" not\n");
+fn main(rt: HostRuntime) {
+    let stdout = rt.stdout();
+    let c = card(stdout, Tally { good: 0, wrong: 0 });
+    let c = others(stdout, slips(stdout, limits(stdout, c)));
+    print_number(stdout, c.good as u64);
+    print_bytes(stdout, b" as written, ");
+    print_number(stdout, c.wrong as u64);
+    print_bytes(stdout, b" not\n");
 }

@@ -3,7 +3,7 @@
 #![tactic(auto)]
 
 use calendar::{Date, DateAnswer, Day, DayAnswer, WeekdayAnswer};
-use libc::STDOUT_FILENO;
+use std::io;
 
 // Where the count stands; counting on needs no rule but the months' lengths.
 #[derive(Clone, Copy)]
@@ -137,7 +137,7 @@ fn agrees(n: u32, c: Count) -> bool {
     has_weekday(Day(n), c.weekday)
 }
 
-fn main() {
+fn main(rt: HostRuntime) -> io::Result<()> {
     let mut c = Count {
         year: 1,
         month: 1,
@@ -153,9 +153,5 @@ fn main() {
         c = counted_on(c);
         n += 1;
     }
-    io::print_decimal(STDOUT_FILENO, good as u64);
-    io::write_all(
-        STDOUT_FILENO,
-        b" days: date, day again, first of year and weekday agree\n",
-    );
+    println!(rt; "{good} days: date, day again, first of year and weekday agree")
 }

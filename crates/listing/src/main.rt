@@ -3,10 +3,10 @@
 // `whole: ..` says that all of it is read and written, and no word at all is trouble too.
 #![tactic(auto)]
 
-ghost use Rattle.io.specs.Counts.{IsPrefixLen};
+ghost use Rattle.std.specs.Prelude.{◌≡◌, ◌≤◌, length, take};
 
-use libc::{STDERR_FILENO, STDIN_FILENO, STDOUT_FILENO};
 use number_text::LengthAnswer;
+use std::io::{Read, Stderr, Stdin, Stdout};
 
 // How many bytes were read, and whether no read failed.
 #[derive(Clone, Copy)]
@@ -15,30 +15,35 @@ struct Input {
     is_read: bool,
 }
 
-// Reads until the room is full, the input ends or a read fails. `io::read_full` does not tell the
-// last two apart.
-fn read_input(room: &mut [u8]) -> Input
-    ensures { IsPrefixLen result.length room.new }
+// Reads until the room is full, the input ends or a read fails.
+fn read_input(mut stdin: Stdin, room: &mut [u8]) -> Input
+    ensures in_bounds { result.length ≤ length room.new }
+    ensures len { result.length ≡ length (take result.length room.new) }
 {
     let mut n = 0;
     while n < room.len() {
-        let got = libc::read(STDIN_FILENO, &mut room[n..]);
-        if got < 0 {
-            return Input {
-                length: n,
-                is_read: false,
-            };
+        match stdin.read(&mut room[n..]) {
+            Ok(0) => break,
+            Ok(more) => n += more,
+            Err(_) => {
+                return Input {
+                    length: n,
+                    is_read: false,
+                };
+            }
         }
-        let more = io::count(got, &room[n..]);
-        if more == 0 {
-            break;
-        }
-        n += more;
     }
     Input {
         length: n,
         is_read: true,
     }
+}
+
+// 65,536 zeros.
+fn input_room() -> [u8; 65536]
+    ensures { 65536 ≡ length result }
+{
+    [0; 65536]
 }
 
 // Made by a call, so that the proof of `main` does not write its bytes out.
@@ -48,22 +53,24 @@ fn listing_room() -> [u8; 662000] {
 
 // Writes the text, and then, only where all of it is written, the word that says so. A list begins
 // with a date, a refusal with its name.
-fn write_answer(text: &[u8]) {
-    if !io::write_all(STDOUT_FILENO, text) {
-        io::write_all(STDERR_FILENO, b"trouble: the list is not written whole\n");
+fn write_answer(stdout: Stdout, stderr: Stderr, text: &[u8]) {
+    if stdout.write_all(text).is_err() {
+        let _ = stderr.write_all(b"trouble: the list is not written whole\n");
     } else if text.len() > 0 && text[0] == b'r' {
-        io::write_all(STDERR_FILENO, b"whole: a refusal\n");
+        let _ = stderr.write_all(b"whole: a refusal\n");
     } else {
-        io::write_all(STDERR_FILENO, b"whole: a list\n");
+        let _ = stderr.write_all(b"whole: a list\n");
     }
 }
 
-fn main() {
+fn main(rt: HostRuntime) {
     // The longest accepted record has 11,296 bytes, and what is longer shows here.
-    let mut input = io::large_buffer();
-    let taken = read_input(&mut input);
+    let mut input = input_room();
+    let taken = read_input(rt.stdin(), &mut input);
     if !taken.is_read {
-        io::write_all(STDERR_FILENO, b"trouble: the input cannot be read\n");
+        let _ = rt
+            .stderr()
+            .write_all(b"trouble: the input cannot be read\n");
         return;
     }
     let n = taken.length;
@@ -71,10 +78,10 @@ fn main() {
     let mut out = listing_room();
     match note_listing::list_note(&input[..n], &mut out) {
         LengthAnswer::Length(m) => {
-            write_answer(&out[..m]);
+            write_answer(rt.stdout(), rt.stderr(), &out[..m]);
         }
         LengthAnswer::Refused(_) => {
-            write_answer(b"refused 16\n");
+            write_answer(rt.stdout(), rt.stderr(), b"refused 16\n");
         }
     }
 }

@@ -129,7 +129,7 @@ pub fn collect(
     amounts: &mut [f64],
 ) -> FlowsAnswer
     requires { JudgedNote note position table.now }
-    ensures result_value { flows_outcome result ≡ counted (note_flows note position table.now) }
+    ensures outcome { flows_outcome result ≡ counted (note_flows note position table.now) }
     ensures kept { Kept note position table.now days.old amounts.old days.new amounts.new }
 {
     // Days and amounts are kept, where there are places for all.

@@ -222,15 +222,28 @@ fn put_bytes(s: &[u8], out: &mut [u8], at: usize) -> usize {
 }
 
 fn put_number(n: u64, out: &mut [u8], at: usize) -> usize {
-    let mut digits = [0u8; 20];
-    let k = io::decimal(n, &mut digits);
-    put_bytes(&digits[..k], out, at)
+    let k = number_text::decimal_length(n);
+    if out.len() < k {
+        return at;
+    }
+    if out.len() - k < at {
+        return at;
+    }
+    number_text::put_digits(n, k, out, at)
 }
 
+// The last `width` digits of n in hex, at most 16.
 fn put_hex(n: u64, width: usize, out: &mut [u8], at: usize) -> usize {
     let mut digits = [0u8; 16];
-    let k = io::hex(n, width, &mut digits);
-    put_bytes(&digits[..k], out, at)
+    let mut i: usize = 16;
+    let mut rest = n;
+    while 0 < i {
+        i -= 1;
+        digits[i] = digit((rest % 16) as u8);
+        rest = rest / 16;
+    }
+    let first = 16 - lent::at_most(width, 16);
+    put_bytes(&digits[first..], out, at)
 }
 
 fn put_word(front: u8, form: u8, n: u64, out: &mut [u8], at: usize) -> usize {

@@ -1,6 +1,8 @@
 // The program: answers questions about the entry points, a line for each record of standard input.
 #![tactic(auto)]
 
+ghost use Rattle.std.specs.Prelude.{◌≡◌, ◌≤◌, length, take};
+
 mod amounts;
 mod business;
 mod days;
@@ -12,8 +14,8 @@ mod parts;
 mod records;
 mod texts;
 
-use libc::{STDIN_FILENO, STDOUT_FILENO};
 use line::Row;
+use std::io::{Read, Stdin, Stdout};
 
 // A letter for each verb, from 0 on: which function answers it. Large letters are for what leaves
 // something in lent memory.
@@ -56,22 +58,22 @@ fn words(verb: u8, f: &[u8], out: &mut [u8], at: usize) -> usize {
     }
 }
 
-fn write_out(out: &[u8], at: usize) {
-    io::write_all(STDOUT_FILENO, lent::first_bytes(out, at));
+fn write_out(stdout: Stdout, out: &[u8], at: usize) {
+    let _ = stdout.write_all(lent::first_bytes(out, at));
 }
 
 // One answer; what is written so far goes out before the room runs short.
-fn answer(verb: u8, f: &[u8], out: &mut [u8], at: usize) -> usize {
+fn answer(stdout: Stdout, verb: u8, f: &[u8], out: &mut [u8], at: usize) -> usize {
     let end = words(verb, f, out, at);
     let next = line::put_byte(b'\n', out, end);
     if next < 200000 {
         return next;
     }
-    write_out(out, next);
+    write_out(stdout, out, next);
     0
 }
 
-fn answer_all(s: &[u8], out: &mut [u8]) {
+fn answer_all(stdout: Stdout, s: &[u8], out: &mut [u8]) {
     let mut from: usize = 0;
     let mut at: usize = 0;
     while 3 <= s.len() - from {
@@ -81,10 +83,10 @@ fn answer_all(s: &[u8], out: &mut [u8]) {
             break;
         }
         let end = first + length;
-        at = answer(s[from + 2], &s[first..end], out, at);
+        at = answer(stdout, s[from + 2], &s[first..end], out, at);
         from = end;
     }
-    write_out(out, at);
+    write_out(stdout, out, at);
 }
 
 // Some thousand questions; what is longer is not read. Both rooms are made by calls, so that the
@@ -98,9 +100,25 @@ fn answers_room() -> [u8; 640000] {
     [0; 640000]
 }
 
-fn main() {
+// Reads until the room is full, the input ends or a read fails.
+fn read_input(mut stdin: Stdin, room: &mut [u8]) -> usize
+    ensures in_bounds { result ≤ length room.new }
+    ensures len { result ≡ length (take result room.new) }
+{
+    let mut n = 0;
+    while n < room.len() {
+        match stdin.read(&mut room[n..]) {
+            Ok(0) => break,
+            Ok(more) => n += more,
+            Err(_) => break,
+        }
+    }
+    n
+}
+
+fn main(rt: HostRuntime) {
     let mut input = questions_room();
-    let n = io::read_full(STDIN_FILENO, &mut input);
+    let n = read_input(rt.stdin(), &mut input);
     let mut out = answers_room();
-    answer_all(&input[..n], &mut out);
+    answer_all(rt.stdout(), &input[..n], &mut out);
 }

@@ -31,7 +31,7 @@ fn collect_within(
 ) -> FlowsAnswer
     requires judged_note { JudgedNote note position table.now }
     requires days_len { (length days.old ≡ 256) × (length amounts.old ≡ 256) }
-    ensures result_value { flows_outcome result ≡ counted (fitting places (cash_flows note position table.now)) }
+    ensures outcome { flows_outcome result ≡ counted (fitting places (cash_flows note position table.now)) }
     ensures kept_all { KeptAll note position table.now days.new amounts.new }
 {
     match note_flows::collect(note, position, table, days, amounts) {
@@ -54,7 +54,7 @@ pub(crate) fn judge_and_buffer(
     days: &mut [u32; note_flows::KEPT],
     amounts: &mut [f64; note_flows::KEPT],
 ) -> FlowsAnswer
-    ensures result_value { flows_outcome result ≡ counted (fitting places (cash_flows note position table.now)) }
+    ensures outcome { flows_outcome result ≡ counted (fitting places (cash_flows note position table.now)) }
     ensures kept_all { KeptAll note position table.now days.new amounts.new }
 {
     // Flows are kept where all of them have a place.

@@ -36,7 +36,7 @@ unfolding power_of_ten
 power_is (pos n) k h e = rw (e)
 power_is (negsuc n) k h e = absurd (true≢false (sym h))
 
-width-most : (d : ℤ) → is_width d ≡ true → of_z w32 d ≤ 4
+pub width-most : (d : ℤ) → is_width d ≡ true → of_z w32 d ≤ 4
 width-most (pos n) h = leb-true n 4 h
 width-most (negsuc n) h = absurd (true≢false (sym h))
 

@@ -202,7 +202,7 @@ module _ (d : ℤ) (width : is_width d ≡ true) (s : Bool) (m : ℕ) (e : ℤ) 
       record {
         small = small;
         away = whole;
-        amount = (same_sign y s whole.sign near.size (num y) (2 ^ 1074) (den y) near.value whole.own_val, refl);
+        amount = (same_sign y s whole.sign near.size (num y) (2 ^ 1074) (den y) near.value whole.own, refl);
         exact = (
           above_exact w (num y) (den y) near.size (2 ^ 1074) (2 ^ 1065) n (down e) (den_pos y) (pow_pos 1074) refl crossed whole.near.0 near.near.0,
           below-exact w (num y) (den y) near.size (2 ^ 1074) (2 ^ 1065) n (down e) (den_pos y) (pow_pos 1074) refl crossed whole.near.1 near.near.1,

@@ -1,3 +1,4 @@
+-- `listing::read_input` is safe, ends and answers a count of bytes that stand at the room's start.
 use Prim.Native.Nat.{◌≤◌, ◌-◌}
 use mathlib.Core.Path.{◌≡◌}
 use lib.ListN.{length}

@@ -6,16 +6,12 @@ use native.Mathlib.Omega.{arith}
 use lib.ListN.{length, get_or, drop, drop_of_length-le}
 use lib.IntN.{pos}
 use lib.Ieee.{Float}
-use denote.Laws.{Is}
-use denote.Enum.Laws as EL
 use Rattle.outcome.proofs.Lists.{head_at}
 use Rattle.outcome.proofs.Outcomes.{unless_then}
 use Rattle.outcome.specs.Outcome.{Outcome, given, refused, and_then}
 use Rattle.calendar.specs.declared.dates.Date.{Date}
 use Rattle.cash_flow.specs.currency.Amounts.{amount_outcome}
 use Rattle.cash_flow.specs.declared.currency.AmountAnswer.{AmountAnswer}
-use Rattle.cash_flow.specs.contracts.currency.AmountAnswer as E
-use Rattle.cash_flow.proofs.currency.AmountAnswer.TheLaws as E'
 use Rattle.cash_flow.specs.declared.flow.CashFlow.{CashFlow}
 use Rattle.cash_flow.proofs.flow.NoFlow.{no_flow}
 use Rattle.day_fraction.specs.Fractions.{whole}
@@ -25,14 +21,9 @@ use Rattle.rates.specs.records.Inner.{stream_start, flow_onto}
 use Rattle.rates.specs.declared.simple.FlatRate.{FlatRate}
 use Rattle.rates.proofs.simple.Streams.{stream_more, stream_none}
 
--- an answer holds what its type says
-abbrev pub Held : AmountAnswer → Type 0
-Held a = Is E.the_row a (EL.vals E.the_type E'.the_laws a)
-
 pub record Summed (r : FlatRate) (today : Date) (ys : List CashFlow) : Type 0 where
   pub i : ℕ
   pub so_far : AmountAnswer
-  pub held : Held so_far
   pub inside : i ≤ length ys
   pub told : and_then (amount_outcome so_far) (λ sum. stream_from r today sum (drop i ys)) ≡ discounted_stream r today ys
 
@@ -41,8 +32,8 @@ module _ (r : FlatRate) (today : Date) (ys : List CashFlow) where
   unfolding stream_start discounted_stream
   start_told o e = rw (e) (unless_then (is_discount_rate r.rate) 15 (given (whole (pos 0))) (λ sum. stream_from r today sum ys))
 
-  abbrev pub sum_start : (a : AmountAnswer) → Held a → amount_outcome a ≡ stream_start r → Summed r today ys
-  sum_start a h e = record { i = 0; so_far = a; held = h; inside = omega arith; told = start_told (amount_outcome a) e }
+  abbrev pub sum_start : (a : AmountAnswer) → amount_outcome a ≡ stream_start r → Summed r today ys
+  sum_start a e = record { i = 0; so_far = a; inside = omega arith; told = start_told (amount_outcome a) e }
 
   onto : (o p : Outcome Float) (f : CashFlow) (fs : List CashFlow) → p ≡ flow_onto r today o f → and_then p (λ sum. stream_from r today sum fs) ≡ and_then o (λ sum. stream_from r today sum (f ∷ fs))
   unfolding flow_onto
@@ -57,8 +48,8 @@ module _ (r : FlatRate) (today : Date) (ys : List CashFlow) where
         ∙ ap (λ (fs : List CashFlow). and_then (amount_outcome t.so_far) (λ sum. stream_from r today sum fs)) (sym next)
         ∙ t.told
 
-    abbrev pub sum_more : (a : AmountAnswer) → Held a → t.i < length ys → amount_outcome a ≡ flow_onto r today (amount_outcome t.so_far) (get_or ys t.i no_flow) → Summed r today ys
-    sum_more a h l e = record { i = t.i + 1; so_far = a; held = h; inside = omega arith; told = more_told a l e }
+    abbrev pub sum_more : (a : AmountAnswer) → t.i < length ys → amount_outcome a ≡ flow_onto r today (amount_outcome t.so_far) (get_or ys t.i no_flow) → Summed r today ys
+    sum_more a l e = record { i = t.i + 1; so_far = a; inside = omega arith; told = more_told a l e }
 
     pub sum_ends : length ys ≤ t.i → amount_outcome t.so_far ≡ discounted_stream r today ys
     sum_ends h = sym (go (amount_outcome t.so_far)) ∙ ap (λ (fs : List CashFlow). and_then (amount_outcome t.so_far) (λ sum. stream_from r today sum fs)) (sym (drop_of_length-le ys h)) ∙ t.told

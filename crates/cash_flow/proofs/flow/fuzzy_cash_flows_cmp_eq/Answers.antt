@@ -9,4 +9,4 @@ returns-then-not-aggregatable c = rw (sym c.aggregatable.ensures ∙ c.if-not-ag
 
 pub returns : goal.returns
 unfolding same_flows
-returns c = rw (sym c.aggregatable.ensures ∙ c.if-not-aggregatable.false) c.is_Within.ensures
+returns c = rw (sym c.aggregatable.ensures ∙ c.if-not-aggregatable.false) c.is_within.ensures

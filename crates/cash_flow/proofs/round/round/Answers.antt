@@ -13,10 +13,10 @@ fitting : (s : Start) → T (fits binary64 s.args.y)
 fitting s = search rules
 
 field : (s : Start) → to_bits binary64 s.args.y % 9223372036854775808 / 4503599627370496 ≤ 1074
-field s = bits_below c.args.y (fitting s) c.requires.1.0 c.requires.1.1
+field s = bits_below s.args.y (fitting s) s.requires.t_2.0 s.requires.t_2.1
 
 pub nearest_whole-whole-requires : goal.nearest_whole-whole-requires
-nearest_whole-whole-requires c = (field c, omega arith)
+nearest_whole-whole-requires c = record { field_bound = field c; mantissa_bound = omega arith }
 
 pub int_to_float-whole : goal.int_to_float-whole
 int_to_float-whole c = whole-fits _ c.nearest_whole-whole.ensures.1

@@ -1,28 +1,30 @@
 -- `cash_flow::ten_to` meets its contract: each arm of the `match` has its number of digits, and
 -- there is no other.
-use Rattle.cash_flow.proofs.round.Limits.{power_is, width-last}
+use native.Mathlib.Omega.{arith}
+use borrow.Author.Rules.{rules}
+use Rattle.cash_flow.proofs.round.Limits.{power_is, width-most}
 use lib.Ieee.{of_bits, of_int}
 use Rattle.cash_flow.proofs.round.ten_to.Goals as goal
 
 pub returns-in-0 : goal.returns-in-0
 unfolding of_bits of_int
-returns-in-0 c = power_is c.args.digits 0 c.requires c.in-0-own.keys1
+returns-in-0 c = power_is c.args.digits 0 c.requires (search rules)
 
 pub returns-in-1 : goal.returns-in-1
 unfolding of_bits of_int
-returns-in-1 c = power_is c.args.digits 1 c.requires c.in-1-own.keys2
+returns-in-1 c = power_is c.args.digits 1 c.requires (search rules)
 
 pub returns-in-2 : goal.returns-in-2
 unfolding of_bits of_int
-returns-in-2 c = power_is c.args.digits 2 c.requires c.in-2-own.keys3
+returns-in-2 c = power_is c.args.digits 2 c.requires (search rules)
 
 pub returns-in-3 : goal.returns-in-3
 unfolding of_bits of_int
-returns-in-3 c = power_is c.args.digits 3 c.requires c.in-3-own.keys4
+returns-in-3 c = power_is c.args.digits 3 c.requires (search rules)
 
 pub returns-in-4 : goal.returns-in-4
 unfolding of_bits of_int
-returns-in-4 c = power_is c.args.digits 4 c.requires c.in-4-own.keys5
+returns-in-4 c = power_is c.args.digits 4 c.requires (search rules)
 
 pub returns-in_default : goal.returns-in_default
-returns-in_default c = absurd (c.in_default-own.rest.1 (width-last c.args.digits c.requires c.in_default-own.rest.0.0.0.0.1 c.in_default-own.rest.0.0.0.1 c.in_default-own.rest.0.0.1 c.in_default-own.rest.0.1))
+returns-in_default c = absurd (omega (arith, width-most c.args.digits c.requires))

@@ -10,5 +10,4 @@ frequent-requires c = (c.requires.0, c.requires.1, c.requires.2, ap roll_date_ex
 
 pub returns-in-Period : goal.returns-in-Period
 returns-in-Period c =
-    let r = c.roll_date-1.given in
-    c.frequent.ensures ∙ ap (λ (p : RollPeriod). period_fraction fractions_in_f64 p c.args.start c.args.end r.0.0) (sym c.in-Period.is) ∙ ap (λ (d : RollDate). icma_fraction fractions_in_f64 d c.args.x.period c.args.start c.args.end) (sym r.1)
+    c.frequent.ensures ∙ ap (λ (p : RollPeriod). period_fraction fractions_in_f64 p c.args.start c.args.end c.in-Date.roll) (sym c.in-Period.is) ∙ ap (λ (d : RollDate). icma_fraction fractions_in_f64 d c.args.x.period c.args.start c.args.end) (sym c.in-Date.is)

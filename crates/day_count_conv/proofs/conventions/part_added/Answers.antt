@@ -10,5 +10,5 @@ use Rattle.day_count_conv.proofs.conventions.part_added.Goals as goal
 
 pub returns-in-Part : goal.returns-in-Part
 returns-in-Part c =
-    let days_fit : SFits w32 c.in-Part.days = record { sfits = c.known_told-1.given.0.1 } in
+    let days_fit : SFits w32 c.in-Part.days = record { sfits = c.in-Part.known_told-1-own.given.0.1 } in
     ap (λ (z : ℤ). add binary64 c.args.yf (div binary64 (of_int binary64 z) (of_int binary64 (pos c.in-Part.length)))) (to_z-of_z days_fit) ∙ ap (part_added c.args.yf) (sym c.in-Part.is)

@@ -3,7 +3,7 @@ use mathlib.Core.Path.{sym, ◌∙◌}
 use Rattle.day_count_conv.proofs.conventions.unless_zero.Goals as goal
 
 pub returns-then-is_30th_to_31st : goal.returns-then-is_30th_to_31st
-returns-then-is_30th_to_31st c = let o = c.is_30th_to_31st.ensures in (rw (sym o.0 ∙ c.if-is_30th_to_31st.true), rw (sym o.1 ∙ c.if-is_30th_to_31st.true))
+returns-then-is_30th_to_31st c = let o = c.is_30th_to_31st.ensures in record { of_30_360 = rw (sym o.0 ∙ c.if-is_30th_to_31st.true); of_30_e_360 = rw (sym o.1 ∙ c.if-is_30th_to_31st.true) }
 
 pub returns : goal.returns
-returns c = let o = c.is_30th_to_31st.ensures in (rw (sym o.0 ∙ c.if-is_30th_to_31st.false), rw (sym o.1 ∙ c.if-is_30th_to_31st.false))
+returns c = let o = c.is_30th_to_31st.ensures in record { of_30_360 = rw (sym o.0 ∙ c.if-is_30th_to_31st.false); of_30_e_360 = rw (sym o.1 ∙ c.if-is_30th_to_31st.false) }

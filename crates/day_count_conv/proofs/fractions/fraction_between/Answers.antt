@@ -42,118 +42,112 @@ pub calc_act_365-requires : goal.calc_act_365-requires
 calc_act_365-requires c =
     let starts : is_date c.args.from ≡ true = sym c.is_date.ensures ∙ c.if-not-is_date.false in
     let ends : is_date c.args.to ≡ true = sym c.is_date-2.ensures ∙ c.if-not-is_date-2.false in
-    let span : Span (asked ⟪ctx⟫).args.from (asked ⟪ctx⟫).args.to = spans _ _ starts ends (sym c.is_before.ensures ∙ c.if-is_before.false) in
+    let span : Span c.args.from c.args.to = spans _ _ starts ends (sym c.is_before.ensures ∙ c.if-is_before.false) in
     span
 
 pub calc_act_360-requires : goal.calc_act_360-requires
 calc_act_360-requires c =
     let starts : is_date c.args.from ≡ true = sym c.is_date.ensures ∙ c.if-not-is_date.false in
     let ends : is_date c.args.to ≡ true = sym c.is_date-2.ensures ∙ c.if-not-is_date-2.false in
-    let span : Span (asked ⟪ctx⟫).args.from (asked ⟪ctx⟫).args.to = spans _ _ starts ends (sym c.is_before.ensures ∙ c.if-is_before.false) in
+    let span : Span c.args.from c.args.to = spans _ _ starts ends (sym c.is_before.ensures ∙ c.if-is_before.false) in
     span
 
 pub calc_act_365_leap-requires : goal.calc_act_365_leap-requires
 calc_act_365_leap-requires c =
     let starts : is_date c.args.from ≡ true = sym c.is_date.ensures ∙ c.if-not-is_date.false in
     let ends : is_date c.args.to ≡ true = sym c.is_date-2.ensures ∙ c.if-not-is_date-2.false in
-    let span : Span (asked ⟪ctx⟫).args.from (asked ⟪ctx⟫).args.to = spans _ _ starts ends (sym c.is_before.ensures ∙ c.if-is_before.false) in
+    let span : Span c.args.from c.args.to = spans _ _ starts ends (sym c.is_before.ensures ∙ c.if-is_before.false) in
     span
 
 pub calc_30_360-requires : goal.calc_30_360-requires
 calc_30_360-requires c =
     let starts : is_date c.args.from ≡ true = sym c.is_date.ensures ∙ c.if-not-is_date.false in
     let ends : is_date c.args.to ≡ true = sym c.is_date-2.ensures ∙ c.if-not-is_date-2.false in
-    let span : Span (asked ⟪ctx⟫).args.from (asked ⟪ctx⟫).args.to = spans _ _ starts ends (sym c.is_before.ensures ∙ c.if-is_before.false) in
+    let span : Span c.args.from c.args.to = spans _ _ starts ends (sym c.is_before.ensures ∙ c.if-is_before.false) in
     span
 
 pub unless_zero-requires : goal.unless_zero-requires
 unless_zero-requires c =
     let starts : is_date c.args.from ≡ true = sym c.is_date.ensures ∙ c.if-not-is_date.false in
     let ends : is_date c.args.to ≡ true = sym c.is_date-2.ensures ∙ c.if-not-is_date-2.false in
-    let span : Span (asked ⟪ctx⟫).args.from (asked ⟪ctx⟫).args.to = spans _ _ starts ends (sym c.is_before.ensures ∙ c.if-is_before.false) in
+    let span : Span c.args.from c.args.to = spans _ _ starts ends (sym c.is_before.ensures ∙ c.if-is_before.false) in
     span
 
 pub calc_30_e_360-requires : goal.calc_30_e_360-requires
 calc_30_e_360-requires c =
     let starts : is_date c.args.from ≡ true = sym c.is_date.ensures ∙ c.if-not-is_date.false in
     let ends : is_date c.args.to ≡ true = sym c.is_date-2.ensures ∙ c.if-not-is_date-2.false in
-    let span : Span (asked ⟪ctx⟫).args.from (asked ⟪ctx⟫).args.to = spans _ _ starts ends (sym c.is_before.ensures ∙ c.if-is_before.false) in
+    let span : Span c.args.from c.args.to = spans _ _ starts ends (sym c.is_before.ensures ∙ c.if-is_before.false) in
     span
 
 pub unless_zero-requires-in-D30E360 : goal.unless_zero-requires-in-D30E360
 unless_zero-requires-in-D30E360 c =
     let starts : is_date c.args.from ≡ true = sym c.is_date.ensures ∙ c.if-not-is_date.false in
     let ends : is_date c.args.to ≡ true = sym c.is_date-2.ensures ∙ c.if-not-is_date-2.false in
-    let span : Span (asked ⟪ctx⟫).args.from (asked ⟪ctx⟫).args.to = spans _ _ starts ends (sym c.is_before.ensures ∙ c.if-is_before.false) in
+    let span : Span c.args.from c.args.to = spans _ _ starts ends (sym c.is_before.ensures ∙ c.if-is_before.false) in
     span
 
 pub returns-in-Act365 : goal.returns-in-Act365
 unfolding impossible simple_fraction
 returns-in-Act365 c =
-    let asked : tie.Start = begun c in
+    let Rule : DayCountConv → Outcome Float = λ r. by_rule fractions_in_f64 r c.args.from c.args.to no_terms in
     let starts : is_date c.args.from ≡ true = sym c.is_date.ensures ∙ c.if-not-is_date.false in
     let ends : is_date c.args.to ≡ true = sym c.is_date-2.ensures ∙ c.if-not-is_date-2.false in
-    let span : Span (asked ⟪ctx⟫).args.from (asked ⟪ctx⟫).args.to = spans _ _ starts ends (sym c.is_before.ensures ∙ c.if-is_before.false) in
-    let Rule : DayCountConv → Outcome Float = λ r. by_rule fractions_in_f64 r asked.args.from asked.args.to no_terms in
-    let told : (o : Outcome Float) (r : DayCountConv) → (asked ⟪ctx⟫).args.convention ≡ r → o ≡ (Rule ⟪ctx⟫) r → (o ≡ year_fraction fractions_in_f64 (asked ⟪ctx⟫).args.convention (asked ⟪ctx⟫).args.from (asked ⟪ctx⟫).args.to no_terms) × FractionWithin o (year_fraction fractions_exactly (asked ⟪ctx⟫).args.convention (asked ⟪ctx⟫).args.from (asked ⟪ctx⟫).args.to no_terms) = λ o r t e. promised asked.args.convention asked.args.from asked.args.to no_terms o
-    (e ∙ ap Rule (sym t) ∙ sym (span_fraction fractions_in_f64 asked.args.convention asked.args.from asked.args.to no_terms span (unrolled asked.args.convention))) in
+    let span : Span c.args.from c.args.to = spans _ _ starts ends (sym c.is_before.ensures ∙ c.if-is_before.false) in
+    let told : (o : Outcome Float) (r : DayCountConv) → c.args.convention ≡ r → o ≡ Rule r → (o ≡ year_fraction fractions_in_f64 c.args.convention c.args.from c.args.to no_terms) × FractionWithin o (year_fraction fractions_exactly c.args.convention c.args.from c.args.to no_terms) = λ o r t e. promised c.args.convention c.args.from c.args.to no_terms o
+    (e ∙ ap Rule (sym t) ∙ sym (span_fraction fractions_in_f64 c.args.convention c.args.from c.args.to no_terms span (unrolled c.args.convention))) in
     told _ conv.Act365 c.in-Act365.is (ap {B = Outcome Float} given c.calc_act_365.ensures)
 
 pub returns-in-Act360 : goal.returns-in-Act360
 unfolding impossible simple_fraction
 returns-in-Act360 c =
-    let asked : tie.Start = begun c in
+    let Rule : DayCountConv → Outcome Float = λ r. by_rule fractions_in_f64 r c.args.from c.args.to no_terms in
     let starts : is_date c.args.from ≡ true = sym c.is_date.ensures ∙ c.if-not-is_date.false in
     let ends : is_date c.args.to ≡ true = sym c.is_date-2.ensures ∙ c.if-not-is_date-2.false in
-    let span : Span (asked ⟪ctx⟫).args.from (asked ⟪ctx⟫).args.to = spans _ _ starts ends (sym c.is_before.ensures ∙ c.if-is_before.false) in
-    let Rule : DayCountConv → Outcome Float = λ r. by_rule fractions_in_f64 r asked.args.from asked.args.to no_terms in
-    let told : (o : Outcome Float) (r : DayCountConv) → (asked ⟪ctx⟫).args.convention ≡ r → o ≡ (Rule ⟪ctx⟫) r → (o ≡ year_fraction fractions_in_f64 (asked ⟪ctx⟫).args.convention (asked ⟪ctx⟫).args.from (asked ⟪ctx⟫).args.to no_terms) × FractionWithin o (year_fraction fractions_exactly (asked ⟪ctx⟫).args.convention (asked ⟪ctx⟫).args.from (asked ⟪ctx⟫).args.to no_terms) = λ o r t e. promised asked.args.convention asked.args.from asked.args.to no_terms o
-    (e ∙ ap Rule (sym t) ∙ sym (span_fraction fractions_in_f64 asked.args.convention asked.args.from asked.args.to no_terms span (unrolled asked.args.convention))) in
+    let span : Span c.args.from c.args.to = spans _ _ starts ends (sym c.is_before.ensures ∙ c.if-is_before.false) in
+    let told : (o : Outcome Float) (r : DayCountConv) → c.args.convention ≡ r → o ≡ Rule r → (o ≡ year_fraction fractions_in_f64 c.args.convention c.args.from c.args.to no_terms) × FractionWithin o (year_fraction fractions_exactly c.args.convention c.args.from c.args.to no_terms) = λ o r t e. promised c.args.convention c.args.from c.args.to no_terms o
+    (e ∙ ap Rule (sym t) ∙ sym (span_fraction fractions_in_f64 c.args.convention c.args.from c.args.to no_terms span (unrolled c.args.convention))) in
     told _ conv.Act360 c.in-Act360.is (ap {B = Outcome Float} given c.calc_act_360.ensures)
 
 pub returns-in-Act365l : goal.returns-in-Act365l
 unfolding impossible simple_fraction
 returns-in-Act365l c =
-    let asked : tie.Start = begun c in
+    let Rule : DayCountConv → Outcome Float = λ r. by_rule fractions_in_f64 r c.args.from c.args.to no_terms in
     let starts : is_date c.args.from ≡ true = sym c.is_date.ensures ∙ c.if-not-is_date.false in
     let ends : is_date c.args.to ≡ true = sym c.is_date-2.ensures ∙ c.if-not-is_date-2.false in
-    let span : Span (asked ⟪ctx⟫).args.from (asked ⟪ctx⟫).args.to = spans _ _ starts ends (sym c.is_before.ensures ∙ c.if-is_before.false) in
-    let Rule : DayCountConv → Outcome Float = λ r. by_rule fractions_in_f64 r asked.args.from asked.args.to no_terms in
-    let told : (o : Outcome Float) (r : DayCountConv) → (asked ⟪ctx⟫).args.convention ≡ r → o ≡ (Rule ⟪ctx⟫) r → (o ≡ year_fraction fractions_in_f64 (asked ⟪ctx⟫).args.convention (asked ⟪ctx⟫).args.from (asked ⟪ctx⟫).args.to no_terms) × FractionWithin o (year_fraction fractions_exactly (asked ⟪ctx⟫).args.convention (asked ⟪ctx⟫).args.from (asked ⟪ctx⟫).args.to no_terms) = λ o r t e. promised asked.args.convention asked.args.from asked.args.to no_terms o
-    (e ∙ ap Rule (sym t) ∙ sym (span_fraction fractions_in_f64 asked.args.convention asked.args.from asked.args.to no_terms span (unrolled asked.args.convention))) in
+    let span : Span c.args.from c.args.to = spans _ _ starts ends (sym c.is_before.ensures ∙ c.if-is_before.false) in
+    let told : (o : Outcome Float) (r : DayCountConv) → c.args.convention ≡ r → o ≡ Rule r → (o ≡ year_fraction fractions_in_f64 c.args.convention c.args.from c.args.to no_terms) × FractionWithin o (year_fraction fractions_exactly c.args.convention c.args.from c.args.to no_terms) = λ o r t e. promised c.args.convention c.args.from c.args.to no_terms o
+    (e ∙ ap Rule (sym t) ∙ sym (span_fraction fractions_in_f64 c.args.convention c.args.from c.args.to no_terms span (unrolled c.args.convention))) in
     told _ conv.Act365l c.in-Act365l.is (ap {B = Outcome Float} given c.calc_act_365_leap.ensures)
 
 pub returns-in-D30_360 : goal.returns-in-D30_360
 unfolding simple_fraction
 returns-in-D30_360 c =
-    let asked : tie.Start = begun c in
+    let Rule : DayCountConv → Outcome Float = λ r. by_rule fractions_in_f64 r c.args.from c.args.to no_terms in
     let starts : is_date c.args.from ≡ true = sym c.is_date.ensures ∙ c.if-not-is_date.false in
     let ends : is_date c.args.to ≡ true = sym c.is_date-2.ensures ∙ c.if-not-is_date-2.false in
-    let span : Span (asked ⟪ctx⟫).args.from (asked ⟪ctx⟫).args.to = spans _ _ starts ends (sym c.is_before.ensures ∙ c.if-is_before.false) in
-    let Rule : DayCountConv → Outcome Float = λ r. by_rule fractions_in_f64 r asked.args.from asked.args.to no_terms in
-    let told : (o : Outcome Float) (r : DayCountConv) → (asked ⟪ctx⟫).args.convention ≡ r → o ≡ (Rule ⟪ctx⟫) r → (o ≡ year_fraction fractions_in_f64 (asked ⟪ctx⟫).args.convention (asked ⟪ctx⟫).args.from (asked ⟪ctx⟫).args.to no_terms) × FractionWithin o (year_fraction fractions_exactly (asked ⟪ctx⟫).args.convention (asked ⟪ctx⟫).args.from (asked ⟪ctx⟫).args.to no_terms) = λ o r t e. promised asked.args.convention asked.args.from asked.args.to no_terms o
-    (e ∙ ap Rule (sym t) ∙ sym (span_fraction fractions_in_f64 asked.args.convention asked.args.from asked.args.to no_terms span (unrolled asked.args.convention))) in
-    told _ conv.D30_360 c.in-D30_360.is (c.unless_zero.ensures.0 ∙ ap (λ (x : Float). unless (not (impossible simple.D30_360 asked.args.from asked.args.to)) 9 (given x)) c.calc_30_360.ensures)
+    let span : Span c.args.from c.args.to = spans _ _ starts ends (sym c.is_before.ensures ∙ c.if-is_before.false) in
+    let told : (o : Outcome Float) (r : DayCountConv) → c.args.convention ≡ r → o ≡ Rule r → (o ≡ year_fraction fractions_in_f64 c.args.convention c.args.from c.args.to no_terms) × FractionWithin o (year_fraction fractions_exactly c.args.convention c.args.from c.args.to no_terms) = λ o r t e. promised c.args.convention c.args.from c.args.to no_terms o
+    (e ∙ ap Rule (sym t) ∙ sym (span_fraction fractions_in_f64 c.args.convention c.args.from c.args.to no_terms span (unrolled c.args.convention))) in
+    told _ conv.D30_360 c.in-D30_360.is (c.unless_zero.ensures.of_30_360 ∙ ap (λ (x : Float). unless (not (impossible simple.D30_360 c.args.from c.args.to)) 9 (given x)) c.calc_30_360.ensures)
 
 pub returns-in-D30E360 : goal.returns-in-D30E360
 unfolding simple_fraction
 returns-in-D30E360 c =
-    let asked : tie.Start = begun c in
+    let Rule : DayCountConv → Outcome Float = λ r. by_rule fractions_in_f64 r c.args.from c.args.to no_terms in
     let starts : is_date c.args.from ≡ true = sym c.is_date.ensures ∙ c.if-not-is_date.false in
     let ends : is_date c.args.to ≡ true = sym c.is_date-2.ensures ∙ c.if-not-is_date-2.false in
-    let span : Span (asked ⟪ctx⟫).args.from (asked ⟪ctx⟫).args.to = spans _ _ starts ends (sym c.is_before.ensures ∙ c.if-is_before.false) in
-    let Rule : DayCountConv → Outcome Float = λ r. by_rule fractions_in_f64 r asked.args.from asked.args.to no_terms in
-    let told : (o : Outcome Float) (r : DayCountConv) → (asked ⟪ctx⟫).args.convention ≡ r → o ≡ (Rule ⟪ctx⟫) r → (o ≡ year_fraction fractions_in_f64 (asked ⟪ctx⟫).args.convention (asked ⟪ctx⟫).args.from (asked ⟪ctx⟫).args.to no_terms) × FractionWithin o (year_fraction fractions_exactly (asked ⟪ctx⟫).args.convention (asked ⟪ctx⟫).args.from (asked ⟪ctx⟫).args.to no_terms) = λ o r t e. promised asked.args.convention asked.args.from asked.args.to no_terms o
-    (e ∙ ap Rule (sym t) ∙ sym (span_fraction fractions_in_f64 asked.args.convention asked.args.from asked.args.to no_terms span (unrolled asked.args.convention))) in
-    told _ conv.D30E360 c.in-D30E360.is (c.unless_zero-in-D30E360.ensures.1 ∙ ap (λ (x : Float). unless (not (impossible simple.D30E360 asked.args.from asked.args.to)) 9 (given x)) c.calc_30_e_360.ensures)
+    let span : Span c.args.from c.args.to = spans _ _ starts ends (sym c.is_before.ensures ∙ c.if-is_before.false) in
+    let told : (o : Outcome Float) (r : DayCountConv) → c.args.convention ≡ r → o ≡ Rule r → (o ≡ year_fraction fractions_in_f64 c.args.convention c.args.from c.args.to no_terms) × FractionWithin o (year_fraction fractions_exactly c.args.convention c.args.from c.args.to no_terms) = λ o r t e. promised c.args.convention c.args.from c.args.to no_terms o
+    (e ∙ ap Rule (sym t) ∙ sym (span_fraction fractions_in_f64 c.args.convention c.args.from c.args.to no_terms span (unrolled c.args.convention))) in
+    told _ conv.D30E360 c.in-D30E360.is (c.unless_zero-in-D30E360.ensures.of_30_e_360 ∙ ap (λ (x : Float). unless (not (impossible simple.D30E360 c.args.from c.args.to)) 9 (given x)) c.calc_30_e_360.ensures)
 
 pub returns-in-ActActICMA : goal.returns-in-ActActICMA
 returns-in-ActActICMA c =
-    let asked : tie.Start = begun c in
+    let Rule : DayCountConv → Outcome Float = λ r. by_rule fractions_in_f64 r c.args.from c.args.to no_terms in
     let starts : is_date c.args.from ≡ true = sym c.is_date.ensures ∙ c.if-not-is_date.false in
     let ends : is_date c.args.to ≡ true = sym c.is_date-2.ensures ∙ c.if-not-is_date-2.false in
-    let span : Span (asked ⟪ctx⟫).args.from (asked ⟪ctx⟫).args.to = spans _ _ starts ends (sym c.is_before.ensures ∙ c.if-is_before.false) in
-    let Rule : DayCountConv → Outcome Float = λ r. by_rule fractions_in_f64 r asked.args.from asked.args.to no_terms in
-    let told : (o : Outcome Float) (r : DayCountConv) → (asked ⟪ctx⟫).args.convention ≡ r → o ≡ (Rule ⟪ctx⟫) r → (o ≡ year_fraction fractions_in_f64 (asked ⟪ctx⟫).args.convention (asked ⟪ctx⟫).args.from (asked ⟪ctx⟫).args.to no_terms) × FractionWithin o (year_fraction fractions_exactly (asked ⟪ctx⟫).args.convention (asked ⟪ctx⟫).args.from (asked ⟪ctx⟫).args.to no_terms) = λ o r t e. promised asked.args.convention asked.args.from asked.args.to no_terms o
-    (e ∙ ap Rule (sym t) ∙ sym (span_fraction fractions_in_f64 asked.args.convention asked.args.from asked.args.to no_terms span (unrolled asked.args.convention))) in
+    let span : Span c.args.from c.args.to = spans _ _ starts ends (sym c.is_before.ensures ∙ c.if-is_before.false) in
+    let told : (o : Outcome Float) (r : DayCountConv) → c.args.convention ≡ r → o ≡ Rule r → (o ≡ year_fraction fractions_in_f64 c.args.convention c.args.from c.args.to no_terms) × FractionWithin o (year_fraction fractions_exactly c.args.convention c.args.from c.args.to no_terms) = λ o r t e. promised c.args.convention c.args.from c.args.to no_terms o
+    (e ∙ ap Rule (sym t) ∙ sym (span_fraction fractions_in_f64 c.args.convention c.args.from c.args.to no_terms span (unrolled c.args.convention))) in
     told _ conv.ActActICMA c.in-ActActICMA.is refl

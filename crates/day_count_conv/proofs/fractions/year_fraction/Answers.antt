@@ -34,7 +34,7 @@ fraction_judged-requires c =
     let rolls : roll_dated c.args.convention c.args.x.roll ≡ true = sym c.roll_dated.ensures ∙ c.if-not-roll_dated.false in
     let starts : is_date c.args.start ≡ true = sym c.is_date.ensures ∙ c.if-not-is_date.false in
     let ends : is_date c.args.end ≡ true = sym c.is_date-2.ensures ∙ c.if-not-is_date-2.false in
-    let span : Span (begun ⟪ctx⟫).args.start (begun ⟪ctx⟫).args.end = spans _ _ starts ends (sym c.is_before.ensures ∙ c.if-is_before.false) in
+    let span : Span c.args.start c.args.end = spans _ _ starts ends (sym c.is_before.ensures ∙ c.if-is_before.false) in
     (span, rolls)
 
 pub returns : goal.returns
@@ -42,5 +42,5 @@ returns c =
     let rolls : roll_dated c.args.convention c.args.x.roll ≡ true = sym c.roll_dated.ensures ∙ c.if-not-roll_dated.false in
     let starts : is_date c.args.start ≡ true = sym c.is_date.ensures ∙ c.if-not-is_date.false in
     let ends : is_date c.args.end ≡ true = sym c.is_date-2.ensures ∙ c.if-not-is_date-2.false in
-    let span : Span (begun ⟪ctx⟫).args.start (begun ⟪ctx⟫).args.end = spans _ _ starts ends (sym c.is_before.ensures ∙ c.if-is_before.false) in
+    let span : Span c.args.start c.args.end = spans _ _ starts ends (sym c.is_before.ensures ∙ c.if-is_before.false) in
     promised c.args.convention c.args.start c.args.end c.args.x _ (c.fraction_judged.ensures ∙ sym (span_fraction fractions_in_f64 c.args.convention c.args.start c.args.end c.args.x span rolls))

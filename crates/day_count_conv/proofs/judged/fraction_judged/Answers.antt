@@ -23,11 +23,11 @@ returns-in-Act365l c = ap {B = Outcome Float} given c.calc_act_365_leap.ensures 
 
 pub returns-in-D30_360 : goal.returns-in-D30_360
 unfolding simple_fraction
-returns-in-D30_360 c = c.unless_zero.ensures.0 ∙ ap (λ (x : Float). unless (not (impossible simple.D30_360 c.args.start c.args.end)) 9 (given x)) c.calc_30_360.ensures ∙ ap (λ (r : DayCountConv). by_rule fractions_in_f64 r c.args.start c.args.end c.args.x) (sym c.in-D30_360.is)
+returns-in-D30_360 c = c.unless_zero.ensures.of_30_360 ∙ ap (λ (x : Float). unless (not (impossible simple.D30_360 c.args.start c.args.end)) 9 (given x)) c.calc_30_360.ensures ∙ ap (λ (r : DayCountConv). by_rule fractions_in_f64 r c.args.start c.args.end c.args.x) (sym c.in-D30_360.is)
 
 pub returns-in-D30E360 : goal.returns-in-D30E360
 unfolding simple_fraction
-returns-in-D30E360 c = c.unless_zero-in-D30E360.ensures.1 ∙ ap (λ (x : Float). unless (not (impossible simple.D30E360 c.args.start c.args.end)) 9 (given x)) c.calc_30_e_360.ensures ∙ ap (λ (r : DayCountConv). by_rule fractions_in_f64 r c.args.start c.args.end c.args.x) (sym c.in-D30E360.is)
+returns-in-D30E360 c = c.unless_zero-in-D30E360.ensures.of_30_e_360 ∙ ap (λ (x : Float). unless (not (impossible simple.D30E360 c.args.start c.args.end)) 9 (given x)) c.calc_30_e_360.ensures ∙ ap (λ (r : DayCountConv). by_rule fractions_in_f64 r c.args.start c.args.end c.args.x) (sym c.in-D30E360.is)
 
 pub returns-in-ActActICMA : goal.returns-in-ActActICMA
 returns-in-ActActICMA c = c.act_act_icma.ensures ∙ ap (λ (r : DayCountConv). by_rule fractions_in_f64 r c.args.start c.args.end c.args.x) (sym c.in-ActActICMA.is)

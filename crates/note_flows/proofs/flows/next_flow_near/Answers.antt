@@ -18,7 +18,7 @@ pay-requires c =
     let accepted : Accepted c.args.note = judged-note c.args.note c.args.position c.args.table.now c.requires.0 in
     let Made : Payment → Type 0 = Makes c.args.note accepted c.args.position c.args.table.now c.args.due in
     let found : c.payment_for.result ≡ payment_of c.args.note c.args.position (event_of c.args.note c.args.due) = c.payment_for.ensures ∙ ap (payment_of c.args.note c.args.position) c.next_event.ensures in
-    let made : Made ⟪ctx⟫ c.payment_for.result = subst Made (sym found) (makes c.args.note accepted c.args.position c.args.table.now c.args.due c.requires.1) in
+    let made : Made c.payment_for.result = subst Made (sym found) (makes c.args.note accepted c.args.position c.args.table.now c.args.due c.requires.1) in
     ((subst Made c.in-Pay.is made).0, judged-table c.args.note c.args.position c.args.table.now c.requires.0)
 
 pub returns-in-Pay : goal.returns-in-Pay

@@ -9,15 +9,12 @@ returns-then-day-from c = simp (lt-leb _ _ c.if-day-from.true)
 
 pub returns-then-day-ge-NO_DAY : goal.returns-then-day-ge-NO_DAY
 returns-then-day-ge-NO_DAY c =
-    let s : tie.Start = c.before.before in
-    simp (le-leb _ _ c.if-day-from.false, lt-leb s.args.day 3652059 (omega (arith, c.if-day-ge-NO_DAY.true)))
+    simp (le-leb _ _ c.if-day-from.false, lt-leb c.args.day 3652059 (omega (arith, c.if-day-ge-NO_DAY.true)))
 
 pub returns-then-not-is_same_currency : goal.returns-then-not-is_same_currency
 returns-then-not-is_same_currency c =
-    let s : tie.Start = c.before.before.before.before in
-    rw (le-leb _ _ c.if-day-from.false, le-leb s.args.day 3652059 (omega (arith, c.if-day-ge-NO_DAY.false)), sym c.is_same_currency.ensures ∙ c.if-not-is_same_currency.true)
+    rw (le-leb _ _ c.if-day-from.false, le-leb c.args.day 3652059 (omega (arith, c.if-day-ge-NO_DAY.false)), sym c.is_same_currency.ensures ∙ c.if-not-is_same_currency.true)
 
 pub returns : goal.returns
 returns c =
-    let s : tie.Start = c.before.before.before.before.before in
-    rw (le-leb _ _ c.if-day-from.false, le-leb s.args.day 3652059 (omega (arith, c.if-day-ge-NO_DAY.false)), sym c.is_same_currency.ensures ∙ c.if-not-is_same_currency.false) c.is_finite.ensures
+    rw (le-leb _ _ c.if-day-from.false, le-leb c.args.day 3652059 (omega (arith, c.if-day-ge-NO_DAY.false)), sym c.is_same_currency.ensures ∙ c.if-not-is_same_currency.false) c.is_finite.ensures

@@ -18,9 +18,8 @@ returns-then-not-is_one_currency c = rw (sym c.is_finite.ensures ∙ c.if-not-is
 pub returns-in-Fraction : goal.returns-in-Fraction
 unfolding flow_value
 returns-in-Fraction c =
-    let start : tie.Start = c.before.before.before.before.before.before.before.before.before.before in
     rw (sym c.is_finite.ensures ∙ c.if-not-is_finite.false, sym c.is_one_currency.ensures ∙ c.if-not-is_one_currency.false, sym (ap fraction_outcome (sym c.in-Fraction.is) ∙ c.fraction_to.ensures))
-    (ap (λ (x : Float). given (mul binary64 x start.args.flow.amount)) c.simple_factor.ensures)
+    (ap (λ (x : Float). given (mul binary64 x c.args.flow.amount)) c.simple_factor.ensures)
 
 pub returns-in-Refused : goal.returns-in-Refused
 unfolding flow_value

@@ -6,11 +6,11 @@ use Rattle.flow_text.proofs.amount.Lengths.{amount_long}
 use Rattle.flow_text.proofs.amount.put_amount_at.Goals as goal
 
 pub put_decimal_at-next-requires : goal.put_decimal_at-next-requires
-put_decimal_at-next-requires c = (c.requires.0, omega (arith, c.requires.1, amount_long c.args.x c.args.currency))
+put_decimal_at-next-requires c = record { x_value = c.requires.x_value; x_in_bounds = omega (arith, c.requires.currency_in_bounds, amount_long c.args.x c.args.currency) }
 
 pub put_currency-requires : goal.put_currency-requires
-put_currency-requires c = omega (arith, c.requires.1, amount_long c.args.x c.args.currency, c.put_decimal_at-next.ensures.1, c.put_decimal_at-next.auto.1.0)
+put_currency-requires c = omega (arith, c.requires.currency_in_bounds, amount_long c.args.x c.args.currency, c.put_decimal_at-next.ensures.1, c.put_decimal_at-next.auto.out)
 
 pub returns : goal.returns
 unfolding amount_text
-returns c = wrote_then _ _ _ _ _ _ _ _ c.put_decimal_at-next.ensures c.put_currency.ensures (omega (arith, c.requires.1, amount_long c.args.x c.args.currency))
+returns c = wrote_then _ _ _ _ _ _ _ _ c.put_decimal_at-next.ensures c.put_currency.ensures (omega (arith, c.requires.currency_in_bounds, amount_long c.args.x c.args.currency))

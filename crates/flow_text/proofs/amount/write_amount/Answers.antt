@@ -19,7 +19,7 @@ pub put_amount_at-requires : goal.put_amount_at-requires
 put_amount_at-requires c =
     let p = passed_given length (amount_shown c.args.x c.args.currency) _ (sym (ap length_outcome (sym c.in-Length.is) ∙ c.amount_length.ensures)) in
     let was = amount_was c.args.x c.args.currency p.0 p.1 in
-    (was.0, rw was.2 (omega (arith, p.2, c.if-out-k.false)))
+    record { x_value = was.0; currency_in_bounds = rw was.2 (omega (arith, p.2, c.if-out-k.false)) }
 
 pub returns-else-out-k : goal.returns-else-out-k
 returns-else-out-k c =

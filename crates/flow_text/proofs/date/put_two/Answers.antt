@@ -10,7 +10,7 @@ pub put_digits-requires : goal.put_digits-requires
 put_digits-requires c = simp length-set (omega (arith, c.requires))
 
 pub shape_of-out : goal.shape_of-out
-shape_of-out c = c.put_digits.auto.1.1.0 ∙ simp length-set
+shape_of-out c = c.put_digits.auto.out ∙ simp length-set
 
 pub returns : goal.returns
 returns c = wrote_then _ _ _ _ _ _ _ _ (wrote_one c.args.out.now c.args.at 45 (omega (arith, c.requires))) c.put_digits.ensures (omega (arith, c.requires, length_digits 2 c.args.n))

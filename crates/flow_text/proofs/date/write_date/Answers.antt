@@ -17,7 +17,7 @@ returns-then-out-lt-DATE_LENGTH c =
 pub put_date_at-requires : goal.put_date_at-requires
 put_date_at-requires c =
     let is = sym c.is_date.ensures ∙ c.if-not-is_date.false in
-    (is, omega (arith, date_long c.args.t is, c.if-out-lt-DATE_LENGTH.false))
+    record { t_value = is; t_in_bounds = omega (arith, date_long c.args.t is, c.if-out-lt-DATE_LENGTH.false) }
 
 pub returns : goal.returns
 returns c =

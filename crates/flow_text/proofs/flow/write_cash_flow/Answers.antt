@@ -20,7 +20,7 @@ pub put_cash_flow_at-requires : goal.put_cash_flow_at-requires
 put_cash_flow_at-requires c =
     let p = passed_given length (flow_shown c.args.flow) _ (sym (ap length_outcome (sym c.in-Length.is) ∙ c.cash_flow_length.ensures)) in
     let was = flow_was c.args.flow p.0 p.1 in
-    ((was.0, was.1), rw was.2 (omega (arith, p.2, c.if-out-k.false)))
+    record { amount_value = (was.0, was.1); flow_in_bounds = rw was.2 (omega (arith, p.2, c.if-out-k.false)) }
 
 pub returns-else-out-k : goal.returns-else-out-k
 returns-else-out-k c =

@@ -11,7 +11,7 @@ pub put_decimal-end-requires : goal.put_decimal-end-requires
 put_decimal-end-requires c = omega (arith, c.requires, number_long c.args.n)
 
 pub bounds-out-end : goal.bounds-out-end
-bounds-out-end c = omega (arith, c.requires, number_long c.args.n, c.put_decimal-end.ensures.1, c.put_decimal-end.auto.1.0)
+bounds-out-end c = omega (arith, c.requires, number_long c.args.n, c.put_decimal-end.ensures.1, c.put_decimal-end.auto.out)
 
 pub overflow_add-result : goal.overflow_add-result
 overflow_add-result c = omega (arith, c.requires, number_long c.args.n, c.put_decimal-end.ensures.1)
@@ -19,5 +19,5 @@ overflow_add-result c = omega (arith, c.requires, number_long c.args.n, c.put_de
 pub returns : goal.returns
 unfolding number_text
 returns c =
-    let room : c.put_decimal-end.result < length c.put_decimal-end.new.1.0 = omega (arith, c.requires, number_long c.args.n, c.put_decimal-end.ensures.1, c.put_decimal-end.auto.1.0) in
+    let room : c.put_decimal-end.result < length c.put_decimal-end.new.out = omega (arith, c.requires, number_long c.args.n, c.put_decimal-end.ensures.1, c.put_decimal-end.auto.out) in
     wrote_then _ _ _ _ _ _ _ _ c.put_decimal-end.ensures (wrote_one _ c.put_decimal-end.result 10 room) (omega (arith, c.requires, number_long c.args.n))

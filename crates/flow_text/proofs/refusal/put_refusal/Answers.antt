@@ -9,7 +9,7 @@ pub put_bytes-at-requires : goal.put_bytes-at-requires
 put_bytes-at-requires c = omega (arith, c.requires, refusal_long c.args.n)
 
 pub put_number-requires : goal.put_number-requires
-put_number-requires c = omega (arith, c.requires, refusal_long c.args.n, number_long c.args.n, c.put_bytes-at.ensures.1, c.put_bytes-at.auto.1.0)
+put_number-requires c = omega (arith, c.requires, refusal_long c.args.n, number_long c.args.n, c.put_bytes-at.ensures.1, c.put_bytes-at.auto.out)
 
 pub returns : goal.returns
 unfolding refused_text

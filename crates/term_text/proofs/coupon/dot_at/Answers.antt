@@ -1,5 +1,4 @@
 -- `term_text::dot_at` meets its contract: no byte passed is a dot.
-use Prim.Native.Nat.{◌-◌}
 use native.Mathlib.Omega.{arith}
 use Rattle.term_text.proofs.coupon.Parts.{no_dot_yet, no_dot_more, dot_here, dot_nowhere}
 use Rattle.term_text.proofs.coupon.dot_at.Goals as goal

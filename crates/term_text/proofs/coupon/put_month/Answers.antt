@@ -9,7 +9,7 @@ pub put_padded-requires : goal.put_padded-requires
 put_padded-requires c = simp length-set (omega (arith, c.requires))
 
 pub shape_of-out : goal.shape_of-out
-shape_of-out c = c.put_padded.auto.1.1.0 ∙ simp length-set
+shape_of-out c = c.put_padded.auto.out ∙ simp length-set
 
 pub returns : goal.returns
 returns c = wrote_then _ _ _ _ _ _ _ _ (wrote_one c.args.out.now c.args.at 46 (omega (arith, c.requires))) c.put_padded.ensures (omega (arith, c.requires))

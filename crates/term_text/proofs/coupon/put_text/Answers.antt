@@ -9,7 +9,7 @@ pub put_padded-at-requires : goal.put_padded-at-requires
 put_padded-at-requires c = omega (arith, c.requires, text_length c.args.c)
 
 pub put_month-requires : goal.put_month-requires
-put_month-requires c = omega (arith, c.requires, text_length c.args.c, c.put_padded-at.ensures.1, c.put_padded-at.auto.1.1.0)
+put_month-requires c = omega (arith, c.requires, text_length c.args.c, c.put_padded-at.ensures.1, c.put_padded-at.auto.out)
 
 pub returns : goal.returns
 unfolding coupon_date_text

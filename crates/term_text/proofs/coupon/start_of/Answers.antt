@@ -1,5 +1,4 @@
 -- `term_text::start_of` meets its contract: each blank passed leaves the same text to trim.
-use Prim.Native.Nat.{◌-◌}
 use mathlib.Core.Path.{refl, sym, ◌∙◌}
 use native.Mathlib.Omega.{arith}
 use Rattle.term_text.proofs.coupon.Parts.{start_more, start_here, start_end}

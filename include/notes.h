@@ -1,5 +1,5 @@
 /*
- * The C face of Trelomavilk, a register of growers' notes. Link libc_face.a (rt staticlib c_face); it is for x86-64.
+ * The C face of Trelomavilk, a register of growers' notes. Link libc_face.a (rt lib, in crates/c_face); it is for x86-64.
  * The register comes under finql's licence, MIT OR Apache-2.0 at your choice; see NOTICE.
  *
  * Every function returns 0 for an answer, else the number of a refusal:

@@ -69,9 +69,10 @@ WIDTH = 100
 NAMED_FUNCTION = re.compile(r"`(\w+)::(\w+)`")
 NAMED_EDIT = re.compile(r"`(\w+)/(\w+)`")
 EXCEPTION = "## The exception"
-# In the head, where the table of zeros comes; and the zero in a definition `..Returned`.
+# In the head, where the table of zeros comes; and the zero in a definition `.._returned`.
 ZEROS = "<!-- zeros -->"
 ZERO = re.compile(r"= returned (\S+) ")
+RETURNED, OUTCOME = "_returned", "_outcome"
 
 
 class Problems(list):
@@ -113,12 +114,7 @@ def grouped(words):
 
 def parsed(statement):
     """A statement as words and brackets."""
-    return grouped(re.findall(r"[(){},;]|[^\s(){},;⌜⌝]+", statement))[0]
-
-
-def bare(ensures):
-    """A contract without the λ that names its result."""
-    return ensures.split("⌜", 1)[-1].rsplit("⌝", 1)[0].strip()
+    return grouped(re.findall(r"[(){},;]|[^\s(){},;]+", statement))[0]
 
 
 def conjuncts(statement):
@@ -198,8 +194,9 @@ class Register:
     def check_door(self, crate):
         """Under `// Inner:` a door hands on inner functions, and above it all others."""
         _, _, below = crate.sources["lib.rt"].partition("\n" + INNER)
+        inner = {n for m in sources.HANDED_ON.finditer(below) for n in sources.items_used(m)}
         for item in crate.handed_on():
-            if item.module and (f"::{item.name};" in below) != item.is_inner:
+            if item.module and (item.name in inner) != item.is_inner:
                 name = f"{crate.name}::{item.name}"
                 self.problems.say(f"{name} stands on the wrong side of `{INNER}` in its door")
 
@@ -218,7 +215,7 @@ class Register:
         imports = self.imports(item)
         found = []
         for statement in item.ensures:
-            for parts in conjuncts(bare(statement)):
+            for parts in conjuncts(statement):
                 names = sources.names_in(" ".join(words_of(parts)), imports)
                 names = [(n, *self.standing(n, place)) for n, place in names if place]
                 found.append([name for name in names if self.tells(*name)])
@@ -229,7 +226,7 @@ class Register:
 
     def tells(self, name, crate, file):
         """Not of a row: how outcomes are joined, how an answer is one, and C's plain numbers."""
-        if (crate, file) == ("outcome", "Outcome.antt") or name.endswith("Outcome"):
+        if (crate, file) == ("outcome", "Outcome.antt") or name.endswith(OUTCOME):
             return False
         if (crate, file) != ("c_values", "arguments/Numbers.antt"):
             return True
@@ -238,7 +235,7 @@ class Register:
 
     def promise_column(self, item):
         return " and ".join(self.promise_text(names, item) for names in self.promised(item)) or (
-            f"`{bare(item.ensures[0])}`" if item.ensures else ""
+            f"`{item.ensures[0]}`" if item.ensures else ""
         )
 
     def promise_text(self, names, item):
@@ -265,7 +262,7 @@ class Register:
         places = [item.crate] + [place[0] for place in self.imports(item).values() if place]
         best = None
         for statement in item.ensures:
-            promised = application(conjuncts(bare(statement))[0])
+            promised = application(conjuncts(statement)[0])
             for crate in dict.fromkeys(p for p in places if p in self.crates):
                 for theorem in self.crates[crate].theorems:
                     score = closeness(theorem, *promised)
@@ -409,7 +406,7 @@ def inner_cells(item):
     if not item.requires:
         asks = asks or "nothing"
     elif not asks:
-        asks = " and ".join(f"`{bare(clause)}`" for clause in item.requires)
+        asks = " and ".join(f"`{clause}`" for clause in item.requires)
     return answers[:1].upper() + answers[1:], asks
 
 
@@ -421,11 +418,11 @@ def contents(titles):
 
 
 def zeros(register, titles):
-    """What each answer returns, by its definition `..Returned`, and the zero that it names."""
+    """What each answer returns, by its definition `.._returned`, and the zero that it names."""
     lines = [row(["answer", "returned, by", "its zero"]), "|---|---|---|"]
     for crate in (register.crates[n] for _, names in titles for n in names):
         for one in crate.definitions:
-            if one.name.endswith("Returned"):
+            if one.name.endswith(RETURNED):
                 answer, zero = one.type.split(" → ")[0], ZERO.search(one.text).group(1)
                 place = f"`{one.name}` ({crate.name}: {one.file})"
                 lines.append(row([f"`{answer}`", place, f"`{zero}`"]))

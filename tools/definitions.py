@@ -24,7 +24,7 @@ def groups():
         if line.startswith("#"):
             group = line[1:].strip()
         elif ":" in line:
-            yield group, line.split(":")[0]
+            yield group, line.split(":")[0].split()[0]
 
 
 def is_list(lines):

@@ -34,7 +34,7 @@ def layers(text):
             if comment:
                 found.append((comment, []))
             name, _, named = line.partition(":")
-            found[-1][1].append((name.strip(), named.split()))
+            found[-1][1].append((name.split()[0], named.split()))
             comment = ""
         else:
             comment = ""

@@ -14,19 +14,21 @@ CRATES = os.path.join(ROOT, "crates")
 ITEM = re.compile(
     r'^(?P<pub>pub(?:\(crate\))? )?(?P<c>extern "C" )?(?P<kind>fn|const) (?P<name>\w+)', re.M
 )
+# What a `use` brings in: an item, or several in braces.
+USED_ITEMS = r"(?:(?P<name>\w+)|\{(?P<names>[^{}]*)\});"
 # What a door hands on: `pub use module::item;`.
-HANDED_ON = re.compile(r"^pub use (?P<module>\w+(?:::\w+)*)::(?P<name>\w+);", re.M)
+HANDED_ON = re.compile(r"^pub use (?P<module>\w+(?:::\w+)*)::" + USED_ITEMS, re.M)
 # An item of the same crate brought in: `use crate::module::item;`.
-BROUGHT_IN = re.compile(r"^use crate::(?P<module>\w+(?:::\w+)*)::(?P<name>\w+);", re.M)
+BROUGHT_IN = re.compile(r"^use crate::(?P<module>\w+(?:::\w+)*)::" + USED_ITEMS, re.M)
 # An item of another crate brought in: `use other::ITEM;`.
-FROM_ANOTHER = re.compile(r"^use (?!crate::)(?:\w+::)+(?P<name>\w+);", re.M)
+FROM_ANOTHER = re.compile(r"^use (?!crate::)(?:\w+::)+" + USED_ITEMS, re.M)
 # A name in Rattle, with the modules before it.
 RATTLE_PATH = re.compile(r"\w+(?:::\w+)*")
 # A function's result, up to its contract or its body; and a clause of a contract.
 RESULT = re.compile(r"\s*(?:->[^{]*?(?=\s(?:requires|ensures)\b|\s*\{))?")
-CLAUSE = re.compile(r"\s*(requires|ensures) \{")
+CLAUSE = re.compile(r"\s*(requires|ensures)(?: \w+)? \{")
 # A word of a statement is anything between blanks, brackets and commas.
-STATEMENT_WORD = re.compile(r"[^\s(){},;⌜⌝]+")
+STATEMENT_WORD = re.compile(r"[^\s(){},;]+")
 # A definition or a theorem begins with its type: `name : type`. An equation of it follows, and has
 # no colon before its `=`.
 DEFINED = re.compile(
@@ -40,8 +42,11 @@ USED_NAMES = re.compile(
     r"^(?:ghost |unfoldable )?(?:pub )?use (?P<path>\S+)\.\{(?P<names>[^}]*)\}", re.M
 )
 USED_AS = re.compile(r"^(?:ghost )?use (?P<path>\S+) as (?P<name>[^\s;]+)", re.M)
-# A specification of the register: `Rattle·crate.specs.a.B`, or `Rattle·crate·specs.specs.a.B`.
-SPECIFICATION = re.compile(r"^Rattle·(?P<crate>\w+)(?:·specs)?\.specs\.(?P<file>.+)$")
+# A specification of the register: `Rattle.crate.specs.a.B`. What the check makes of a crate's types
+# stands below `declared`.
+SPECIFICATION = re.compile(r"^Rattle\.(?P<crate>\w+)\.specs\.(?!declared\.)(?P<file>.+)$")
+# A theorem of one outcome.
+THEOREM = re.compile(r"one[-_]")
 
 
 @dataclass
@@ -164,10 +169,16 @@ def items_of(crate, module, text):
             item.end = plain.index(";", plain.index("=", m.end())) + 1
         found.append(item)
     for m in FROM_ANOTHER.finditer(plain):
-        item = Item(crate, module, m.group("name"), False, False, False, [])
-        item.start, item.end = m.span()
-        found.append(item)
+        for name in items_used(m):
+            item = Item(crate, module, name, False, False, False, [])
+            item.start, item.end = m.span()
+            found.append(item)
     return found
+
+
+def items_used(match):
+    """The names that a `use` brings in."""
+    return re.findall(r"\w+", match.group("name") or match.group("names"))
 
 
 def definitions_of(file, text):
@@ -177,7 +188,7 @@ def definitions_of(file, text):
     """
     found = []
     for m in DEFINED.finditer(text):
-        is_theorem = m.group("pub") and m.group("name").startswith("one-")
+        is_theorem = m.group("pub") and THEOREM.match(m.group("name"))
         is_other = m.group("name") in ("use", "--", "module")
         if not is_other and (is_theorem or not m.group("indent")):
             found.append(Definition(file, m.group("name"), "", "", m.start(), len(text)))
@@ -217,7 +228,7 @@ def imports_of(text):
 
 def specification(path):
     m = SPECIFICATION.match(path)
-    if not m:
+    if not m or not os.path.isdir(os.path.join(CRATES, m.group("crate"))):
         return None
     return m.group("crate"), m.group("file").replace(".", "/") + ".antt"
 
@@ -250,7 +261,7 @@ class Crate:
             d
             for f, t in self.texts("proofs", "OneOutcome.antt").items()
             for d in definitions_of(f, t)
-            if d.name.startswith("one-")
+            if THEOREM.match(d.name)
         ]
         self.edits = [edit_of(name, f[:-5], t) for f, t in self.texts("must-fail", ".edit").items()]
 
@@ -281,7 +292,7 @@ class Crate:
     def handed_on(self):
         """The functions that others reach: those of its door and those that the door hands on."""
         door = self.sources["lib.rt"]
-        names = {(m.group("module"), m.group("name")) for m in HANDED_ON.finditer(door)}
+        names = {(m.group("module"), name) for m in HANDED_ON.finditer(door) for name in items_used(m)}
         rank = {module: k for k, module in enumerate(self.modules_lowest_first())}
         found = [i for i in self.items if i.is_function and i.public]
         found = [i for i in found if not i.module or (i.module, i.name) in names]
@@ -318,7 +329,7 @@ class Crate:
     def named_by(self, item):
         """The functions and constants of this crate that an item names."""
         source = self.sources[file_of(item.module)]
-        brought = {m.group("name"): m.group("module") for m in BROUGHT_IN.finditer(source)}
+        brought = {n: m.group("module") for m in BROUGHT_IN.finditer(source) for n in items_used(m)}
         found = []
         for path in RATTLE_PATH.findall(without_comments(self.text_of(item))):
             module, _, name = path.rpartition("::")

@@ -1,7 +1,6 @@
 -- `bond::check_note_with` meets its contract: each `return` is one of the checks, in their order.
 use mathlib.Core.Path.{◌≡◌, sym, ◌∙◌}
 use mathlib.Core.Bool.{true}
-use borrow.Author.Tests.{not-true}
 use Rattle.bond.specs.limits.Limits.{is_note_number, is_coupon_rate}
 use Rattle.bond.specs.note.Notes.{note_checks}
 use Rattle.bond.proofs.note.check_note_with.Goals as goal
@@ -21,7 +20,7 @@ unfolding note_checks
 returns-then-not-position c =
     let numbered : is_note_number c.args.note.number ≡ true = sym c.is_note_number.ensures ∙ c.if-not-is_note_number.false in
     let rated : is_coupon_rate c.args.note.rate ≡ true = sym c.is_coupon_rate.ensures ∙ c.if-not-is_coupon_rate.false in
-    rw (numbered, rated, not-true c.args.position c.if-not-position.true)
+    rw (numbered, rated, c.if-not-position.true)
 
 pub returns-then-not-is_currency : goal.returns-then-not-is_currency
 unfolding note_checks

@@ -6,14 +6,13 @@ use lib.Signed.{lt_z}
 use mir.Syntax.{w32}
 use mir.Val.{SFits, to_z, of_z}
 use mir.Facts.{to_z-of_z}
-use borrow.Author.Tests.{not-true}
 use Rattle.outcome.proofs.Numbers.{at_most, not_at_most}
 use Rattle.bond.specs.note.Notes.{period_checks}
 use Rattle.bond.proofs.note.check_period.Goals as goal
 
 pub returns-then-not-table : goal.returns-then-not-table
 unfolding period_checks
-returns-then-not-table c = rw (not-true c.args.table c.if-not-table.true)
+returns-then-not-table c = rw c.if-not-table.true
 
 pub returns-then-period-lt1 : goal.returns-then-period-lt1
 unfolding period_checks

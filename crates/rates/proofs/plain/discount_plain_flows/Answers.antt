@@ -1,6 +1,5 @@
 -- `rates::discount_plain_flows` meets its contract: 15, or the flows one after the other; what is
 -- left decides. Laws of Streams.
-use Prim.Native.Nat.{◌-◌}
 use mathlib.Core.Path.{sym, ap, ap₂, ◌∙◌}
 use native.Mathlib.Nat.{sub-zero}
 use native.Mathlib.Omega.{arith}

@@ -10,8 +10,8 @@ use note_flows::KEPT;
 
 // The first n days and amounts, in front of others.
 fn copy(n: usize, kept_days: &[u32], kept_amounts: &[f64], days: &mut [u32], amounts: &mut [f64])
-    requires n_in_bounds { (n ≤ length kept_days.now) × (n ≤ length kept_amounts.now) }
-    requires n_in_bounds_2 { (n ≤ length days.old) × (n ≤ length amounts.old) }
+    requires kept { (n ≤ length kept_days.now) × (n ≤ length kept_amounts.now) }
+    requires room { (n ≤ length days.old) × (n ≤ length amounts.old) }
     ensures days_after { days.new ≡ take n kept_days.now ++ drop n days.old }
     ensures amounts_after { amounts.new ≡ take n kept_amounts.now ++ drop n amounts.old }
 {

@@ -39,7 +39,7 @@ pub returns-in-Stop : goal.returns-in-Stop
 returns-in-Stop c =
     let turned-at : Turned c.args.note c.args.position c.args.table.now c.loop-day.due c.next_flow_near-taken.result.step = step_turns c.args.note c.args.position c.args.table.now c.requires c.loop-day.due c.loop-day.invariant.counting.dated _ c.next_flow_near-taken.ensures in
     let e = subst (Turned _ _ _ c.loop-day.due) c.in-Stop.is turned-at in
-    (counting_stop _ _ _ c.loop-day.invariant.counting e, collecting_stop _ _ _ _ _ c.loop-day.invariant e)
+    record { outcome = counting_stop _ _ _ c.loop-day.invariant.counting e; kept = collecting_stop _ _ _ _ _ c.loop-day.invariant e }
 
 pub shape_of-days-in-End : goal.shape_of-days-in-End
 shape_of-days-in-End c = c.loop-day.invariant.as_many_days
@@ -51,4 +51,4 @@ pub returns-in-End : goal.returns-in-End
 returns-in-End c =
     let turned-at : Turned c.args.note c.args.position c.args.table.now c.loop-day.due c.next_flow_near-taken.result.step = step_turns c.args.note c.args.position c.args.table.now c.requires c.loop-day.due c.loop-day.invariant.counting.dated _ c.next_flow_near-taken.ensures in
     let e = subst (Turned _ _ _ c.loop-day.due) c.in-End.is turned-at in
-    (counting_end _ _ _ c.loop-day.invariant.counting e, collecting_end _ _ _ _ _ c.loop-day.invariant e)
+    record { outcome = counting_end _ _ _ c.loop-day.invariant.counting e; kept = collecting_end _ _ _ _ _ c.loop-day.invariant e }

@@ -25,19 +25,19 @@ pub returns-in-Pay : goal.returns-in-Pay
 unfolding next_step
 returns-in-Pay c =
     let found : c.payment_for.result ≡ payment_of c.args.note c.args.position (event_of c.args.note c.args.due) = c.payment_for.ensures ∙ ap (payment_of c.args.note c.args.position) c.next_event.ensures in
-    let stepped_by : {p : Payment} → c.payment_for.result ≡ p → step_for c.args.note c.args.table.now p ≡ next_step c.args.note c.args.position c.args.table.now c.args.due = λ e. ap (step_for c.args.note c.args.table.now) (sym e ∙ found) in
-    c.pay.ensures ∙ stepped_by c.in-Pay.is
+    let stepped_by : (p : Payment) → c.payment_for.result ≡ p → step_for c.args.note c.args.table.now p ≡ next_step c.args.note c.args.position c.args.table.now c.args.due = λ p e. ap (step_for c.args.note c.args.table.now) (sym e ∙ found) in
+    c.pay.ensures ∙ stepped_by _ c.in-Pay.is
 
 pub returns-in-Stop : goal.returns-in-Stop
 unfolding next_step
 returns-in-Stop c =
     let found : c.payment_for.result ≡ payment_of c.args.note c.args.position (event_of c.args.note c.args.due) = c.payment_for.ensures ∙ ap (payment_of c.args.note c.args.position) c.next_event.ensures in
-    let stepped_by : {p : Payment} → c.payment_for.result ≡ p → step_for c.args.note c.args.table.now p ≡ next_step c.args.note c.args.position c.args.table.now c.args.due = λ e. ap (step_for c.args.note c.args.table.now) (sym e ∙ found) in
-    stepped_by c.in-Stop.is
+    let stepped_by : (p : Payment) → c.payment_for.result ≡ p → step_for c.args.note c.args.table.now p ≡ next_step c.args.note c.args.position c.args.table.now c.args.due = λ p e. ap (step_for c.args.note c.args.table.now) (sym e ∙ found) in
+    stepped_by _ c.in-Stop.is
 
 pub returns-in-End : goal.returns-in-End
 unfolding next_step
 returns-in-End c =
     let found : c.payment_for.result ≡ payment_of c.args.note c.args.position (event_of c.args.note c.args.due) = c.payment_for.ensures ∙ ap (payment_of c.args.note c.args.position) c.next_event.ensures in
-    let stepped_by : {p : Payment} → c.payment_for.result ≡ p → step_for c.args.note c.args.table.now p ≡ next_step c.args.note c.args.position c.args.table.now c.args.due = λ e. ap (step_for c.args.note c.args.table.now) (sym e ∙ found) in
-    stepped_by c.in-End.is
+    let stepped_by : (p : Payment) → c.payment_for.result ≡ p → step_for c.args.note c.args.table.now p ≡ next_step c.args.note c.args.position c.args.table.now c.args.due = λ p e. ap (step_for c.args.note c.args.table.now) (sym e ∙ found) in
+    stepped_by _ c.in-End.is

@@ -14,17 +14,15 @@ later_fraction-requires c = subst (Spanned c.args.note) c.in-Later.is c.requires
 
 pub returns-in-First : goal.returns-in-First
 returns-in-First c =
-    let g = c.c-1.given in
     c.coupon_payment.ensures
-    ∙ ap (coupon_payment c.args.note c.args.position g.0.1.0) c.first_fraction.ensures
-    ∙ ap (payment_of c.args.note c.args.position) (sym g.1)
+    ∙ ap (coupon_payment c.args.note c.args.position c.in-First.end) c.first_fraction.ensures
+    ∙ ap (payment_of c.args.note c.args.position) (sym c.in-First.is)
 
 pub returns-in-Later : goal.returns-in-Later
 returns-in-Later c =
-    let g = c.c-in-Later-1.given in
     c.coupon_payment-in-Later.ensures
-    ∙ ap (coupon_payment c.args.note c.args.position g.0.1.0) c.later_fraction.ensures
-    ∙ ap (payment_of c.args.note c.args.position) (sym g.1)
+    ∙ ap (coupon_payment c.args.note c.args.position c.in-Later.end) c.later_fraction.ensures
+    ∙ ap (payment_of c.args.note c.args.position) (sym c.in-Later.is)
 
 pub returns-in-Nominal : goal.returns-in-Nominal
 returns-in-Nominal c = ap (λ (x : Float). Pay c.args.note.maturity x Nothing) c.nominal-amount.ensures ∙ ap (payment_of c.args.note c.args.position) (sym c.in-Nominal.is)

@@ -30,8 +30,10 @@ def entry_points():
         if crate == "c_face":
             continue
         text = open(path, encoding="utf-8").read()
-        for name in re.findall(r"^pub use \w+::([a-z]\w*);", text.split("// Inner:")[0], re.M):
-            yield crate + "::" + name
+        for one, several in re.findall(r"^pub use \w+::(?:(\w+)|\{([^{}]*)\});", text.split("// Inner:")[0], re.M):
+            for name in re.findall(r"\w+", one or several):
+                if name[0].islower():
+                    yield crate + "::" + name
         for comment, name in re.findall(r"((?:^//.*\n)*)^pub fn (\w+)", text, re.M):
             if "// Inner:" not in comment:
                 yield crate + "::" + name

@@ -6,8 +6,6 @@ use native.Mathlib.Omega.{arith}
 use lib.ListN.{length, drop, set}
 use lib.Seq.{drop-length}
 use lib.Ieee.{Float}
-use denote.Laws.{Is}
-use denote.Struct.Laws as LL
 use Rattle.outcome.specs.Outcome.{Outcome, given, refused, value}
 use Rattle.outcome.proofs.Outcomes.{then_given}
 use Rattle.outcome.specs.Room.{counted}
@@ -29,8 +27,6 @@ use Rattle.note_flows.specs.declared.schedule.Due.TheVariants.{First}
 use Rattle.rollout.specs.records.Records.{RecordsPromise}
 use Rattle.rollout.specs.buffer.Inner.{KeptAll, FlowDue, FlowIs}
 use Rattle.rollout.specs.declared.buffer.Paid.{Paid}
-use Rattle.rollout.specs.contracts.buffer.Paid as P
-use Rattle.rollout.proofs.buffer.Paid.TheLaws as P'
 
 -- ---- the second pass
 
@@ -42,7 +38,6 @@ to_write n position table old = value [] (fitted_in n position table (length old
 pub record Rolling (n : Note) (position : Float) (table : List ℕ) (old : List CashFlow) : Type 0 where
   pub k : ℕ
   pub paid : Paid
-  pub held : Is P.the_row paid (LL.vals P.the_type P'.the_laws paid)
   pub out : List CashFlow
   pub within : k ≤ length (to_write n position table old)
   pub filled : Filled (to_write n position table old) old k (drop k (to_write n position table old)) out
@@ -72,11 +67,10 @@ module _ (n : Note) (position : Float) (table : List ℕ) (old : List CashFlow) 
   pub first-due : (d : Due) → d ≡ First → 0 < length (to_write n position table old) → Dated d × (flows_due n position table d ≡ given (to_write n position table old))
   first-due d e h = subst (λ (x : Due). Dated x × (flows_due n position table x ≡ given (to_write n position table old))) (sym e) (omega arith, (all_given h).1)
 
-  abbrev pub rolling_none : (p : Paid) → Is P.the_row p (LL.vals P.the_type P'.the_laws p) → p.next ≡ First → Rolling n position table old
-  rolling_none p h e = record {
+  abbrev pub rolling_none : (p : Paid) → p.next ≡ First → Rolling n position table old
+  rolling_none p e = record {
     k = 0;
     paid = p;
-    held = h;
     out = old;
     within = omega arith;
     filled = filled_none (to_write n position table old) old;
@@ -104,11 +98,10 @@ module _ (n : Note) (position : Float) (table : List ℕ) (old : List CashFlow) 
       pub rolling_within : t.k + 1 ≤ length (to_write n position table old)
       rolling_within = omega arith
 
-      abbrev pub rolling_more : Is P.the_row r (LL.vals P.the_type P'.the_laws r) → Rolling n position table old
-      rolling_more h = record {
+      abbrev pub rolling_more : Rolling n position table old
+      rolling_more = record {
         k = t.k + 1;
         paid = r;
-        held = h;
         out = set t.out t.k r.flow;
         within = rolling_within;
         filled = rolling_filled;

@@ -7,7 +7,7 @@ use Rattle.packed_read.proofs.note.Reading.{no_rate}
 use Rattle.packed_read.proofs.note.checked.Goals as goal
 
 pub returns-then-numbers-ge-NO_RATE : goal.returns-then-numbers-ge-NO_RATE
-returns-then-numbers-ge-NO_RATE c = no_rate c.args.table c.args.t1 c.args.unit c.args.convention c.args.rule c.requires.1 c.if-numbers-ge-NO_RATE.true (omega arith)
+returns-then-numbers-ge-NO_RATE c = no_rate c.args.table c.args.numbers c.args.unit c.args.convention c.args.rule c.requires.1 c.if-numbers-ge-NO_RATE.true (omega arith)
 
 pub returns : goal.returns
 returns c = c.check_note_with.ensures ∙ ap (note_checks true c.args.table) c.note_with.ensures

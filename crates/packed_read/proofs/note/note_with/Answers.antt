@@ -12,5 +12,5 @@ float_from_bits-result c = no_nan _ c.requires.1
 
 pub returns : goal.returns
 returns c =
-    let small : number_in c.args.t1 Name.number < 2147483648 = omega arith in
+    let small : number_in c.args.numbers Name.number < 2147483648 = omega arith in
     rw (c.number_in.ensures, c.currency_in.ensures, to_z_pos w32 small)

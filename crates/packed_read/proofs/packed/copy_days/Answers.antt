@@ -9,12 +9,6 @@ use Rattle.packed_read.proofs.packed.copy_days.Goals as goal
 pub loop-i-init : goal.loop-i-init
 loop-i-init _ = (omega arith, filled_none _ _)
 
-pub offset_bounds-days-i : goal.offset_bounds-days-i
-offset_bounds-days-i _ = record { fits = omega arith }
-
-pub offset_bounds-table-i : goal.offset_bounds-table-i
-offset_bounds-table-i _ = record { fits = omega arith }
-
 pub bounds-table-i : goal.bounds-table-i
 bounds-table-i c = omega (arith, c.loop-i.invariant.1.same_length)
 

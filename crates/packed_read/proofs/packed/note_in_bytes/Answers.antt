@@ -35,5 +35,5 @@ returns c =
     let s = c.args.s.now in
     let d = c.is_table_in-taken in (
       c.note_from_numbers.ensures ∙ bytes_whole s _ _ whole c.read_numbers-numbers.ensures.0 d.ensures.0,
-      λ p. subst (λ (k : ℕ). take k d.new.1.1.0 ≡ days_from s 0 k) c.table_count-n.ensures.0 (d.ensures.1 (d.ensures.0 ∙ p.1)),
+      λ p. subst (λ (k : ℕ). take k d.new.days ≡ days_from s 0 k) c.table_count-n.ensures.0 (d.ensures.1 (d.ensures.0 ∙ p.1)),
     )

@@ -27,7 +27,7 @@ copy_days-requires c =
     let bytes_of : List ℕ = c.args.s.now in
     let note-is : note_in_bytes bytes_of ≡ given c.in-Note.note = sym c.note_in_bytes.ensures.0 ∙ ap note_outcome c.in-Note.is in
     let most = few_days bytes_of (bytes-given bytes_of _ note-is).1 in
-    (rw (c.note_in_bytes.auto.1.0, c.table_count-n.ensures.0) most, omega arith)
+    (rw (c.note_in_bytes.auto.days, c.table_count-n.ensures.0) most, omega arith)
 
 pub returns-else-table-n : goal.returns-else-table-n
 returns-else-table-n c =

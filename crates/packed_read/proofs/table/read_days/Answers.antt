@@ -30,9 +30,6 @@ returns-then-d-gt-LAST_DAY c =
     let a = c.args in
     (left_late a.s.now l.low l.i a.n _ _ l.invariant.2 (omega arith) c.day_at-d.ensures (omega arith) c.if-d-gt-LAST_DAY.true, λ e. absurd (true≢false (sym e)))
 
-pub offset_bounds-days-i : goal.offset_bounds-days-i
-offset_bounds-days-i _ = record { fits = omega arith }
-
 pub bounds-days-i : goal.bounds-days-i
 bounds-days-i c = rw c.loop-i.invariant.3.same_length (omega arith)
 

@@ -1,9 +1,13 @@
 -- `packed_write::place_at` meets its contract: a digit, or 15.
 use Prim.Native.Nat.{ℕ, ◌/◌, ◌%◌}
 use mathlib.Core.Path.{ap}
+use native.Mathlib.Nat.{one-le-pow}
 use native.Mathlib.Omega.{arith}
 use borrow.Author.Tests.{lt-ltb, le-ltb}
 use Rattle.packed_write.proofs.numbers.place_at.Goals as goal
+
+pub nonzero_div-result : goal.nonzero_div-result
+nonzero_div-result c = rw c.power_of_ten.ensures (one-le-pow _ 10 (omega arith))
 
 pub returns-then-k-count : goal.returns-then-k-count
 returns-then-k-count c =

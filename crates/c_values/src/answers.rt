@@ -85,7 +85,7 @@ pub fn hand_days(a: DaysAnswer, days: &mut u32) -> u32
 
 // Inner: hands C year, month and day, or the refusal's number.
 pub fn hand_date(a: DateAnswer, year: &mut u32, month: &mut u32, day: &mut u32) -> u32
-    ensures { HandsOver (date_outcome a) result (record { year = year.entry.now; month = month.old; day = day.old }) (record { year = year.exit.now; month = month.new; day = day.new }) }
+    ensures { HandsOver (date_outcome a) result (record { year = year.old; month = month.old; day = day.old }) (record { year = year.new; month = month.new; day = day.new }) }
 {
     match a {
         DateAnswer::Date(t) => {
@@ -113,7 +113,7 @@ pub fn hand_weekday(a: WeekdayAnswer, weekday: &mut u32) -> u32
 
 // Inner: hands C day and month of a coupon date, or the refusal's number.
 pub fn hand_coupon(a: CouponAnswer, day: &mut u32, month: &mut u32) -> u32
-    ensures { HandsOver (coupon_outcome a) result (record { day = day.entry.now; month = month.old }) (record { day = day.exit.now; month = month.new }) }
+    ensures { HandsOver (coupon_outcome a) result (record { day = day.old; month = month.old }) (record { day = day.new; month = month.new }) }
 {
     match a {
         CouponAnswer::Coupon(c) => {

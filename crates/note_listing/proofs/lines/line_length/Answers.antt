@@ -12,23 +12,22 @@ use mathlib.Core.Path.{sym, ap, subst, ◌∙◌}
 use lib.Dec.{T}
 use Rattle.number_text.specs.write.Writing.{length_outcome, Takes}
 use Rattle.note_listing.proofs.lines.Lines.{line_takes, line_takes_none}
+use borrow.Author.Rules.{rules}
 use Rattle.note_listing.proofs.lines.line_length.Goals as goal
 
 pub overflow_add-result : goal.overflow_add-result
 overflow_add-result c =
-    let start : tie.Start = c in
-    let takes : (Takes (line_shown (flow_on start.args.currency start.args.day start.args.amount)) (Length (c.in-Length.k + 1))) × (c.in-Length.k + 1 ≤ 331) = let s = start in
-    let f : CashFlow = flow_on s.args.currency s.args.day s.args.amount in
-    line_takes f c.in-Length.k (subst T (sym s.good.1.1.0.1) tt)
+    let takes : (Takes (line_shown (flow_on c.args.currency c.args.day c.args.amount)) (Length (c.in-Length.k + 1))) × (c.in-Length.k + 1 ≤ 331) =
+    let f : CashFlow = flow_on c.args.currency c.args.day c.args.amount in
+    line_takes f c.in-Length.k (search rules)
     (ap length_outcome (sym c.in-Length.is) ∙ c.cash_flow_length.ensures ∙ ap (λ (g : CashFlow). passed_as length (flow_shown g)) c.flow_on.ensures) in
     omega (arith, takes.1)
 
 pub returns-in-Length : goal.returns-in-Length
 returns-in-Length c =
-    let start : tie.Start = c in
-    let takes : (Takes (line_shown (flow_on start.args.currency start.args.day start.args.amount)) (Length (c.in-Length.k + 1))) × (c.in-Length.k + 1 ≤ 331) = let s = start in
-    let f : CashFlow = flow_on s.args.currency s.args.day s.args.amount in
-    line_takes f c.in-Length.k (subst T (sym s.good.1.1.0.1) tt)
+    let takes : (Takes (line_shown (flow_on c.args.currency c.args.day c.args.amount)) (Length (c.in-Length.k + 1))) × (c.in-Length.k + 1 ≤ 331) =
+    let f : CashFlow = flow_on c.args.currency c.args.day c.args.amount in
+    line_takes f c.in-Length.k (search rules)
     (ap length_outcome (sym c.in-Length.is) ∙ c.cash_flow_length.ensures ∙ ap (λ (g : CashFlow). passed_as length (flow_shown g)) c.flow_on.ensures) in
     takes
 

@@ -14,12 +14,6 @@ use Rattle.note_listing.proofs.lines.lines_length.Goals as goal
 pub loop-i-init : goal.loop-i-init
 loop-i-init _ = (omega arith, omega arith, refl)
 
-pub offset_bounds-days-i : goal.offset_bounds-days-i
-offset_bounds-days-i _ = record { fits = omega arith }
-
-pub offset_bounds-amounts-i : goal.offset_bounds-amounts-i
-offset_bounds-amounts-i _ = record { fits = omega arith }
-
 pub overflow_add-total : goal.overflow_add-total
 overflow_add-total c =
     let short : c.in-Length.k ≤ 331 = subst (AtMost 331) c.in-Length.is c.line_length.ensures.1 in

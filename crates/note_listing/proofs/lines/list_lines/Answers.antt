@@ -20,7 +20,7 @@ returns-then-out-k c =
 pub put_lines-requires : goal.put_lines-requires
 put_lines-requires c =
     let length-is : given c.in-Length.k ≡ and_then (lines_of (flows_shown c.args.currency c.args.days.now c.args.amounts.now)) (λ t. given (length t)) = ap length_outcome (sym c.in-Length.is) ∙ c.lines_length.ensures.0 in
-    (c.requires.1, (all_written (lines_of (flows_shown c.args.currency c.args.days.now c.args.amounts.now)) c.args.out.now _ length-is (omega arith)).0)
+    record { days_in_bounds = c.requires.1; line_fits = (all_written (lines_of (flows_shown c.args.currency c.args.days.now c.args.amounts.now)) c.args.out.now _ length-is (omega arith)).0 }
 
 pub returns-else-out-k : goal.returns-else-out-k
 returns-else-out-k c =

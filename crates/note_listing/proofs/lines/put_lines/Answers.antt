@@ -5,13 +5,7 @@ use Rattle.note_listing.proofs.lines.Lines.{flows-next, flows-none, writing_star
 use Rattle.note_listing.proofs.lines.put_lines.Goals as goal
 
 pub loop-i-init : goal.loop-i-init
-loop-i-init c = (omega arith, writing_start _ c.args.out.now c.requires.1)
-
-pub offset_bounds-days-i : goal.offset_bounds-days-i
-offset_bounds-days-i _ = record { fits = omega arith }
-
-pub offset_bounds-amounts-i : goal.offset_bounds-amounts-i
-offset_bounds-amounts-i _ = record { fits = omega arith }
+loop-i-init c = (omega arith, writing_start _ c.args.out.now c.requires.line_fits)
 
 pub put_line-at-requires : goal.put_line-at-requires
 put_line-at-requires c =

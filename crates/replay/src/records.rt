@@ -1,5 +1,4 @@
-// Verbs 57 to 59: slices of records. The borrow checker covers no function that lends one, so each
-// call stands in a function of its own, proved by hand.
+// Verbs 57 to 59: slices of records. Each call that lends one stands in a function of its own.
 ghost use Rattle.std.specs.Prelude.{◌≤◌};
 
 use crate::line::Row;

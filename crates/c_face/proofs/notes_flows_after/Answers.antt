@@ -4,4 +4,4 @@ use Rattle.c_face.proofs.Rooms.{listed_handed}
 use Rattle.c_face.proofs.notes_flows_after.Goals as goal
 
 pub returns : goal.returns
-returns c = listed_handed _ _ _ _ c.hand_flows.ensures c.args.out-days.now c.args.out-currencies.now _ _ c.args.out-amounts.now _ _ c.flows_after_plain-answer.ensures.answer c.flows_after_plain-answer.ensures.contents
+returns c = listed_handed _ _ _ _ c.hand_flows.ensures c.args.out_days.now c.args.out_currencies.now _ _ c.args.out_amounts.now _ _ c.flows_after_plain-answer.ensures.answer c.flows_after_plain-answer.ensures.contents

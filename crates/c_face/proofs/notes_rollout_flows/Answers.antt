@@ -10,7 +10,7 @@ pub returns-in-Note : goal.returns-in-Note
 returns-in-Note c =
     let days = c.args.days.now in
     let amounts = c.args.amounts.now in
-    rw (← (rw (to_z-of_z c.ranges.period-num) at c.note_of.ensures), c.in-Note.is) (flows_handed _ _ _ _ c.hand_flows.ensures days _ amounts _ (fitted c.in-Note.note c.args.position c.args.holidays.now days amounts) c.rollout_flows-answer.ensures.answer c.rollout_flows-answer.ensures.days-are c.rollout_flows-answer.ensures.amounts_are)
+    rw (← (rw (to_z-of_z c.ranges.period_num) at c.note_of.ensures), c.in-Note.is) (flows_handed _ _ _ _ c.hand_flows.ensures days _ amounts _ (fitted c.in-Note.note c.args.position c.args.holidays.now days amounts) c.rollout_flows-answer.ensures.answer c.rollout_flows-answer.ensures.days-are c.rollout_flows-answer.ensures.amounts_are)
 
 pub returns-in-Refused : goal.returns-in-Refused
-returns-in-Refused c = rw (← (rw (to_z-of_z c.ranges.period-num) at c.note_of.ensures), c.in-Refused.is) (refl, refl)
+returns-in-Refused c = rw (← (rw (to_z-of_z c.ranges.period_num) at c.note_of.ensures), c.in-Refused.is) (refl, refl)

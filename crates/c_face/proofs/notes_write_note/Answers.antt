@@ -7,7 +7,7 @@ use mir.Facts.{to_z-of_z}
 use Rattle.c_face.proofs.notes_write_note.Goals as goal
 
 pub returns-in-Note : goal.returns-in-Note
-returns-in-Note c = rw (← (rw (to_z-of_z c.ranges.period-num) at c.note_of.ensures), c.in-Note.is) (shown_handed c.args.out.now _ _ _ _ _ c.hand_length.ensures (packed_note c.in-Note.note c.args.holidays.now) c.write_note.ensures.0 c.write_note.ensures.1)
+returns-in-Note c = rw (← (rw (to_z-of_z c.ranges.period_num) at c.note_of.ensures), c.in-Note.is) (shown_handed c.args.out.now _ _ _ _ _ c.hand_length.ensures (packed_note c.in-Note.note c.args.holidays.now) c.write_note.ensures.0 c.write_note.ensures.1)
 
 pub returns-in-Refused : goal.returns-in-Refused
-returns-in-Refused c = rw (← (rw (to_z-of_z c.ranges.period-num) at c.note_of.ensures), c.in-Refused.is) (refl, refl)
+returns-in-Refused c = rw (← (rw (to_z-of_z c.ranges.period_num) at c.note_of.ensures), c.in-Refused.is) (refl, refl)

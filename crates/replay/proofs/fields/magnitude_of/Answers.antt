@@ -4,4 +4,4 @@ use Rattle.packed_read.proofs.note.Numbers.{no_nan}
 use Rattle.replay.proofs.fields.magnitude_of.Goals as goal
 
 pub float_from_bits-result : goal.float_from_bits-result
-float_from_bits-result _ = no_nan _ (omega arith)
+float_from_bits-result c = no_nan _ (omega arith)

@@ -229,7 +229,7 @@ pub extern "C" fn notes_new_coupon_date(day: u32, month: u32) -> u32
 // The day and the month of a text dd.mm; refused 6, 7, 8.
 #[unsafe(no_mangle)]
 pub extern "C" fn notes_read_coupon_date(text: &[u8], day: &mut u32, month: &mut u32) -> u32
-    ensures { HandsOver (coupon_text text.now) result (record { day = day.entry.now; month = month.old }) (record { day = day.exit.now; month = month.new }) }
+    ensures { HandsOver (coupon_text text.now) result (record { day = day.old; month = month.old }) (record { day = day.new; month = month.new }) }
 {
     c_values::hand_coupon(term_text::read_coupon_date(text), day, month)
 }

@@ -84,6 +84,7 @@ fn read_from_zero(s: &[u8], refusal: u32) -> SignedAnswer
 
 // Inner: the number of a signed decimal of 32 bits, `-` and `+` allowed; asks for nothing; the
 // caller names its refusal.
+#[tactic(auto, using(crate::proofs::read::Decimals::signed_empty, crate::proofs::read::Decimals::signed_minus_part, crate::proofs::read::Decimals::signed_plus_part, crate::proofs::read::Decimals::signed_plain))]
 pub fn read_i32(s: &[u8], refusal: u32) -> SignedAnswer
     ensures { ReadsSigned refusal s.now result }
 {

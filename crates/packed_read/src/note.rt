@@ -160,6 +160,7 @@ fn checked(
 
 // Inner: of numbers that stood in their bits; what was found of the table behind them comes with
 // them.
+#[tactic(auto, using(crate::proofs::note::Reading::spare_set))]
 pub(crate) fn note_from_numbers(numbers: [u64; FIELDS], table: bool) -> NoteAnswer
     requires { NumbersFit numbers }
     ensures { note_outcome result ≡ note_from table numbers }

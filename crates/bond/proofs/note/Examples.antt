@@ -15,8 +15,6 @@ use Rattle.time_period.specs.declared.steps.TimePeriodUnit.{TimePeriodUnit}
 use Rattle.time_period.specs.declared.steps.TimePeriodUnit.TheVariants as unit
 use Rattle.coupon_date.specs.Coupons.{coupon_date_of}
 use Rattle.coupon_date.specs.declared.CouponDate.{CouponDate}
-use Rattle.day_count_conv.specs.declared.conventions.DayCountConv.TheVariants as conv
-use Rattle.day_adjust.specs.declared.DayAdjust.TheVariants as rule
 use Rattle.cash_flow.specs.currency.Amounts.{is_capital, is_currency}
 use Rattle.cash_flow.specs.declared.currency.Currency.{Currency}
 use Rattle.bond.specs.limits.Limits.{is_note_number, is_coupon_rate}

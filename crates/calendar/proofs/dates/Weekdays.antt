@@ -1,13 +1,12 @@
 -- The days of the week come in their order.
-use Prim.Native.Nat.{ℕ, ◌+◌, ◌%◌, ◌≤◌, ◌<◌}
-use mathlib.Core.Path.{◌≡◌, sym, ap, ◌∙◌}
+use Prim.Native.Nat.{ℕ, ◌+◌, ◌%◌, ◌<◌}
+use mathlib.Core.Path.{◌≡◌, sym, ap}
 use native.Mathlib.Omega.{arith}
 use borrow.Author.Tests.{le-leb}
 use Rattle.outcome.specs.Outcome.{given}
 use Rattle.outcome.proofs.Outcomes.{given_injective, unless-given}
 use Rattle.calendar.specs.dates.Dates.{is_day}
 use Rattle.calendar.specs.serial.Answers.{weekday_of}
-use Rattle.calendar.specs.declared.dates.Day.{Day}
 
 -- the next day has the next weekday, and Monday, 1, comes after Sunday, 7
 pub next_weekday : (n w : ℕ) → n < 3652059 → weekday_of (record { 0 = n }) ≡ given w → weekday_of (record { 0 = n + 1 }) ≡ given (w % 7 + 1)

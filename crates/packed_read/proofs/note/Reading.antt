@@ -1,6 +1,6 @@
 -- The cases of a note's reading, each as the code meets it.
 use Prim.Native.Nat.{ℕ, ◌^◌, ◌≤◌, ◌<◌}
-use mathlib.Core.Path.{◌≡◌}
+use mathlib.Core.Path.{◌≡◌, sym, ◌∙◌}
 use mathlib.Core.Bool.{Bool, true, false}
 use mathlib.Core.List.{List}
 use borrow.Author.Tests.{eq-eqb, ne_eqb}
@@ -33,6 +33,10 @@ module _ (table : Bool) (ns : List ℕ) where
   pub spare-bits : number_good (number_in ns Name.digit_count) (number_in ns Name.digits) ≡ true → (number_in ns Name.spare ≡ 0 → ⊥) → refused 18 ≡ note_from table ns
   unfolding note_from
   spare-bits f g = rw (f, ne_eqb (number_in ns Name.spare) 0 g)
+
+  -- the same of what a test of the number said
+  pub spare_set : (good : Bool) → good ≡ number_good (number_in ns Name.digit_count) (number_in ns Name.digits) → good ≡ true → (number_in ns Name.spare ≡ 0 → ⊥) → refused 18 ≡ note_from table ns
+  spare_set good e f g = spare-bits (sym e ∙ f) g
 
   -- what the codes decide
   abbrev pub by_codes : Outcome Note

@@ -14,12 +14,12 @@ use Rattle.calendar.proofs.dates.Inverse.{date-at}
 use Rattle.calendar.proofs.dates.Examples.{last-number, saturday_number}
 use Rattle.calendar.specs.gregorian.Gregorian.{leap, length_in, month_length, days_before}
 use Rattle.date_step.proofs.Examples.{on_from}
-use Rattle.date_step.specs.Steps.{from_zero_to, months_later, existing_date, years_later, days_later}
+use Rattle.date_step.specs.Steps.{from_zero_to, months_later, days_later}
 use Rattle.business_days.specs.table.Table.{ascends_from, is_table, is_listed}
 use Rattle.business_days.specs.table.Business.{is_weekend, is_business, first_of, next_from, last_of, prev_from, repeated}
 use Rattle.time_period.specs.added.Added.{add_to, sub_from}
 use Rattle.time_period.specs.steps.Steps.{absent, table, business_day, business_step, inverse_of}
-use Rattle.time_period.specs.declared.steps.TimePeriodUnit.TheVariants.{Daily, BusinessDaily, Weekly, Monthly, Annual}
+use Rattle.time_period.specs.declared.steps.TimePeriodUnit.TheVariants.{Daily, BusinessDaily, Weekly, Monthly}
 use Rattle.calendar.proofs.dates.Examples.{on}
 use Rattle.time_period.proofs.steps.Examples.{of}
 

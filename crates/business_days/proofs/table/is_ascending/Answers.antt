@@ -16,8 +16,9 @@ loop-i-preserved c =
     let t = c.args.table.now in (
       omega arith,
       elim c.if-day-last.branch [
-        then-day-last w ↦ rw w.good-is (not-later t l.good l.last l.i l.invariant.1 c.loop-i-test.true w.if-day-last.true)
-        | else-day-last w ↦ rw w.good-is (later t l.good l.last l.i l.invariant.1 c.loop-i-test.true w.if-day-last.false) ],
+        | then-day-last w ↦ rw w.good-is (not-later t l.good l.last l.i l.invariant.1 c.loop-i-test.true w.if-day-last.true)
+        | else-day-last w ↦ rw w.good-is (later t l.good l.last l.i l.invariant.1 c.loop-i-test.true w.if-day-last.false)
+      ],
     )
 
 pub returns-then-last-gt-LAST_DAY : goal.returns-then-last-gt-LAST_DAY

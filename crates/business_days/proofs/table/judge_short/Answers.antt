@@ -25,12 +25,14 @@ loop-i-preserved c =
     let t = c.args.table.now in
     let in_table = c.loop-i-test.true in (
       elim c.if-at-n.branch [
-        then-at-n w ↦ rw w.before-is (passed_yes (is_below c.args.n) t l.i l.before _ in_table (head_at t l.i 0 in_table) l.invariant.0 (lt-ltb _ _ w.if-at-n.true))
-        | else-at-n w ↦ rw w.before-is (passed_no (is_below c.args.n) t l.i l.before _ in_table (head_at t l.i 0 in_table) l.invariant.0 (le-ltb _ _ w.if-at-n.false)) ],
+        | then-at-n w ↦ rw w.before-is (passed_yes (is_below c.args.n) t l.i l.before _ in_table (head_at t l.i 0 in_table) l.invariant.0 (lt-ltb _ _ w.if-at-n.true))
+        | else-at-n w ↦ rw w.before-is (passed_no (is_below c.args.n) t l.i l.before _ in_table (head_at t l.i 0 in_table) l.invariant.0 (le-ltb _ _ w.if-at-n.false))
+      ],
       elim c.if-at-last.branch [ then-at-last w ↦ omega arith | else-at-last w ↦ omega arith ],
       elim c.if-at-last.branch [
-        then-at-last w ↦ rw (w.wrong-is, ne_eqb (l.wrong + 1) 0 (λ e. omega arith)) (not-later t (eqb l.wrong 0) l.last l.i l.invariant.2 in_table w.if-at-last.true)
-        | else-at-last w ↦ rw w.wrong-is (later t (eqb l.wrong 0) l.last l.i l.invariant.2 in_table w.if-at-last.false) ],
+        | then-at-last w ↦ rw (w.wrong-is, ne_eqb (l.wrong + 1) 0 (λ e. omega arith)) (not-later t (eqb l.wrong 0) l.last l.i l.invariant.2 in_table w.if-at-last.true)
+        | else-at-last w ↦ rw w.wrong-is (later t (eqb l.wrong 0) l.last l.i l.invariant.2 in_table w.if-at-last.false)
+      ],
     )
 
 pub returns-then-last-gt-LAST_DAY : goal.returns-then-last-gt-LAST_DAY

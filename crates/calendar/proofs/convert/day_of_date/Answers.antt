@@ -14,12 +14,15 @@ counted : (c : Joined-t-lt3-2) → Counted c.args.t c.if-t-lt3.year c.if-t-lt3-2
 counted c =
     let d : IsDate c.args.t = date-yes c.args.t c.requires in
     elim c.if-t-lt3.branch [
-      then-t-lt3 w ↦ elim c.if-t-lt3-2.branch [
-        then-t-lt3-2 v ↦ counted_early c.args.t _ _ d w.if-t-lt3.true w.year-is v.month-is
-        | else-t-lt3-2 v ↦ absurd (omega arith) ]
+      | then-t-lt3 w ↦ elim c.if-t-lt3-2.branch [
+        | then-t-lt3-2 v ↦ counted_early c.args.t _ _ d w.if-t-lt3.true w.year-is v.month-is
+        | else-t-lt3-2 v ↦ absurd (omega arith)
+      ]
       | else-t-lt3 w ↦ elim c.if-t-lt3-2.branch [
-        then-t-lt3-2 v ↦ absurd (omega arith)
-        | else-t-lt3-2 v ↦ counted_late c.args.t _ _ d w.if-t-lt3.false w.year-is v.month-is ] ]
+        | then-t-lt3-2 v ↦ absurd (omega arith)
+        | else-t-lt3-2 v ↦ counted_late c.args.t _ _ d w.if-t-lt3.false w.year-is v.month-is
+      ]
+    ]
 
 pub overflow_sub-year : goal.overflow_sub-year
 overflow_sub-year c = (dated c.before.before.before).year_from

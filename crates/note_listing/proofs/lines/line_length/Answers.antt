@@ -8,8 +8,7 @@ use Rattle.flow_text.specs.flow.Texts.{flow_shown}
 use Rattle.note_listing.specs.lines.Lines.{line_shown}
 use Rattle.note_listing.specs.lines.Inner.{flow_on}
 use Prim.Native.Nat.{◌+◌, ◌≤◌}
-use mathlib.Core.Path.{sym, ap, subst, ◌∙◌}
-use lib.Dec.{T}
+use mathlib.Core.Path.{sym, ap, ◌∙◌}
 use Rattle.number_text.specs.write.Writing.{length_outcome, Takes}
 use Rattle.note_listing.proofs.lines.Lines.{line_takes, line_takes_none}
 use borrow.Author.Rules.{rules}

@@ -1,5 +1,4 @@
 -- `note_listing::put_lines` meets its contract: if the rest were written now, all would be.
-use Prim.Native.Nat.{◌-◌}
 use native.Mathlib.Omega.{arith}
 use Rattle.note_listing.proofs.lines.Lines.{flows-next, flows-none, writing_start, writing_line, writing_more, writing_end, writing_flows}
 use Rattle.note_listing.proofs.lines.put_lines.Goals as goal

@@ -1,18 +1,14 @@
 -- `packed_read::note_from_numbers` meets its contract: each 18 in turn, the codes in their order,
 -- then the note is checked.
 use mathlib.Core.Path.{sym, ◌∙◌}
-use Rattle.packed_read.proofs.note.Reading.{bad_number, spare-bits, well_formed}
+use borrow.Author.Rules.{rules}
+use Rattle.packed_read.proofs.note.Reading.{bad_number, well_formed}
 use Rattle.packed_read.proofs.note.note_from_numbers.Goals as goal
 
 pub returns-then-not-number_good : goal.returns-then-not-number_good
 returns-then-not-number_good c =
     let a = c.args in
     bad_number a.table a.numbers (sym c.number_good.ensures ∙ c.if-not-number_good.true)
-
-pub returns-then-numbers-ne0 : goal.returns-then-numbers-ne0
-returns-then-numbers-ne0 c =
-    let a = c.args in
-    spare-bits a.table a.numbers (sym c.number_good.ensures ∙ c.if-not-number_good.false) c.if-numbers-ne0.true
 
 pub checked-requires : goal.checked-requires
 checked-requires c = (c.requires, sym c.number_good.ensures ∙ c.if-not-number_good.false)
@@ -21,22 +17,22 @@ pub returns-in-Adjustment : goal.returns-in-Adjustment
 returns-in-Adjustment c =
     let a = c.args in
     let good = sym c.number_good.ensures ∙ c.if-not-number_good.false in
-    rw (well_formed a.table a.numbers good c.if-numbers-ne0.false, ← c.unit_of_code.ensures, c.in-Unit.is, ← c.convention_of_code.ensures, c.in-Convention.is, ← c.adjustment_of_code.ensures, c.in-Adjustment.is) c.checked.ensures
+    rw (well_formed a.table a.numbers good (search rules), ← c.unit_of_code.ensures, c.in-Unit.is, ← c.convention_of_code.ensures, c.in-Convention.is, ← c.adjustment_of_code.ensures, c.in-Adjustment.is) c.checked.ensures
 
 pub returns-in-Refused-adjustment_of_code : goal.returns-in-Refused-adjustment_of_code
 returns-in-Refused-adjustment_of_code c =
     let a = c.args in
     let good = sym c.number_good.ensures ∙ c.if-not-number_good.false in
-    rw (well_formed a.table a.numbers good c.if-numbers-ne0.false, ← c.unit_of_code.ensures, c.in-Unit.is, ← c.convention_of_code.ensures, c.in-Convention.is, ← c.adjustment_of_code.ensures, c.in-Refused-adjustment_of_code.is)
+    rw (well_formed a.table a.numbers good (search rules), ← c.unit_of_code.ensures, c.in-Unit.is, ← c.convention_of_code.ensures, c.in-Convention.is, ← c.adjustment_of_code.ensures, c.in-Refused-adjustment_of_code.is)
 
 pub returns-in-Refused-convention_of_code : goal.returns-in-Refused-convention_of_code
 returns-in-Refused-convention_of_code c =
     let a = c.args in
     let good = sym c.number_good.ensures ∙ c.if-not-number_good.false in
-    rw (well_formed a.table a.numbers good c.if-numbers-ne0.false, ← c.unit_of_code.ensures, c.in-Unit.is, ← c.convention_of_code.ensures, c.in-Refused-convention_of_code.is)
+    rw (well_formed a.table a.numbers good (search rules), ← c.unit_of_code.ensures, c.in-Unit.is, ← c.convention_of_code.ensures, c.in-Refused-convention_of_code.is)
 
 pub returns-in-Refused : goal.returns-in-Refused
 returns-in-Refused c =
     let a = c.args in
     let good = sym c.number_good.ensures ∙ c.if-not-number_good.false in
-    rw (well_formed a.table a.numbers good c.if-numbers-ne0.false, ← c.unit_of_code.ensures, c.in-Refused.is)
+    rw (well_formed a.table a.numbers good (search rules), ← c.unit_of_code.ensures, c.in-Refused.is)

@@ -1,6 +1,5 @@
 -- `packed_read::copy_days` meets its contract. The loop's invariant: i days are copied and the
 -- other places are as they were. The measure: how many are left.
-use Prim.Native.Nat.{◌-◌}
 use mathlib.Core.Path.{◌≡◌}
 use native.Mathlib.Omega.{arith}
 use Rattle.outcome.proofs.Filling.{filled_none, filled_next, filled_part}

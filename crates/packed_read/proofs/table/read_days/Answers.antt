@@ -1,6 +1,5 @@
 -- `packed_read::read_days` meets its contract: the days so far stand in front, and what is left of
 -- them decides.
-use Prim.Native.Nat.{◌-◌}
 use mathlib.Core.Path.{sym}
 use mathlib.Core.Bool.{true≢false}
 use native.Mathlib.Omega.{arith}

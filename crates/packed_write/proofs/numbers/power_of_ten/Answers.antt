@@ -1,5 +1,5 @@
 -- `packed_write::power_of_ten` meets its contract: ten times as much with each turn.
-use Prim.Native.Nat.{ℕ, ◌-◌, ◌^◌}
+use Prim.Native.Nat.{ℕ, ◌^◌}
 use mathlib.Core.Path.{◌≡◌, refl, subst}
 use native.Mathlib.Omega.{arith}
 use Rattle.packed_write.proofs.numbers.Codes.{ten_more, ten_small}

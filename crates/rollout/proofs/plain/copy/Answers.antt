@@ -1,6 +1,6 @@
 -- `rollout::copy` meets its contract. The loop's invariant: i places are copied and the others are
 -- as they were. The measure: how many are left.
-use Prim.Native.Nat.{ℕ, ◌-◌, ◌<◌}
+use Prim.Native.Nat.{ℕ, ◌<◌}
 use mathlib.Core.Path.{◌≡◌}
 use native.Mathlib.Omega.{arith}
 use lib.ListN.{length}

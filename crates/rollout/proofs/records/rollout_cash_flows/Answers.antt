@@ -1,10 +1,8 @@
 -- `rollout::rollout_cash_flows` meets its contract: the first pass judges and counts, and each turn
 -- writes the flow that is due.
-use Prim.Native.Nat.{◌<◌}
-use mathlib.Core.Path.{◌≡◌, sym, ap, ◌∙◌}
+use mathlib.Core.Path.{◌≡◌}
 use native.Mathlib.Omega.{arith}
-use lib.ListN.{length, set}
-use Rattle.note_flows.specs.flows.Turns.{flows_due}
+use lib.ListN.{length}
 use Rattle.rollout.proofs.records.Rolled.{to_write, Rolling, rolling_none, coming, k_inside, rolling_filled, rolling_next, rolling_within, so_many, rolled}
 use Rattle.rollout.proofs.records.rollout_cash_flows.Goals as goal
 

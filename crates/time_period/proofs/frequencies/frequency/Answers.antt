@@ -8,7 +8,7 @@ use native.Mathlib.Omega.{arith}
 use lib.IntN.{nat_abs}
 use mir.Facts.{to_z-of_z}
 use denote.Enum.Declared.{tag_of}
-use Rattle.outcome.specs.Outcome.{given, refused}
+use Rattle.outcome.specs.Outcome.{refused}
 use types.Run.{OneOf}
 use borrow.Enum.Refused.{opened}
 use Rattle.time_period.specs.steps.Periods.{months_frequency, years_frequency, unit_frequency, frequency_of}

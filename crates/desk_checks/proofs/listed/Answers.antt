@@ -1,6 +1,6 @@
 -- `desk_checks::listed` meets its contract: each place is written once, and no day is past the
 -- calendar's numbers.
-use Rattle.std.proofs.Common.{◌-◌, sym, ◌∙◌, arith, length-set}
+use Rattle.std.proofs.Common.{sym, ◌∙◌, arith, length-set}
 use Rattle.desk_checks.proofs.listed.Goals as goal
 
 pub loop-i-preserved : goal.loop-i-preserved

@@ -275,12 +275,13 @@ class Register:
     def place_edits(self, crate):
         """Which items and definitions of a crate each of its edits makes wrong."""
         for edit in crate.edits:
-            for file, old in edit.replaced:
+            for file, old, new in edit.replaced:
                 at = crate.text(file).find(old)
                 if at < 0:
                     self.problems.say(f"{edit.crate}/{edit.label}: its old text is not in {file}")
                     continue
-                at += len(old) - len(old.lstrip())
+                # Where the two begin to differ.
+                at += min(len(os.path.commonprefix([old, new])), len(old) - 1)
                 for place in crate.places(file):
                     edits = self.edited.setdefault(id(place), [])
                     if place.start <= at < place.end and edit not in edits:

@@ -84,7 +84,7 @@ class Definition:
 
 @dataclass
 class Edit:
-    """A wrong edit: its label, what its first comment says, and (file, text) that it replaces."""
+    """A wrong edit: its label, what its first comment says, and (file, old, new) of each text."""
 
     crate: str
     label: str
@@ -169,10 +169,13 @@ def items_of(crate, module, text):
             item.end = plain.index(";", plain.index("=", m.end())) + 1
         found.append(item)
     for m in FROM_ANOTHER.finditer(plain):
+        start = m.start()
         for name in items_used(m):
             item = Item(crate, module, name, False, False, False, [])
-            item.start, item.end = m.span()
+            item.start = start
+            item.end = start = re.compile(rf"\b{name}\b").search(plain, start).end()
             found.append(item)
+        item.end = m.end()
     return found
 
 
@@ -234,7 +237,7 @@ def specification(path):
 
 
 def edit_of(crate, label, text):
-    """A `file: ` line holds for the `old: ` lines behind it."""
+    """A `file: ` line holds for the `old: ` lines behind it, each with its `new: ` line."""
     comment, file, replaced = "", "", []
     for line in text.splitlines():
         if line.startswith("# ") and not comment:
@@ -242,7 +245,9 @@ def edit_of(crate, label, text):
         elif line.startswith("file: "):
             file = line[6:]
         elif line.startswith("old: "):
-            replaced.append((file, line[5:]))
+            replaced.append((file, line[5:], ""))
+        elif line.startswith("new: "):
+            replaced[-1] = (*replaced[-1][:2], line[5:])
     return Edit(crate, label, comment, replaced)
 
 

@@ -51,8 +51,8 @@ fn nearest_whole(field: u64, mantissa: u64) -> u64
 
 // Rust's `f64::round`, of a number below 2^52.
 fn round(y: f64) -> f64
-    requires t { T (not (is_nan y)) }
-    requires t_2 { (T (finite y)) × (num y < 2 ^ 52 * den y) }
+    requires no_nan { T (not (is_nan y)) }
+    requires below_2_52 { (T (finite y)) × (num y < 2 ^ 52 * den y) }
     ensures { result ≡ rounded_away y }
 {
     let b = f64::to_bits(y);

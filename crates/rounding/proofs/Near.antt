@@ -2,8 +2,8 @@
 -- is within e / 2 ^ 100 of it.
 -- All of it is over naturals: a signed number is a difference of two that is never taken. A chain
 -- of rules, one for each operation, bounds the error of a
--- computation: `near_int`, `near_add`, `near_sub`, `near_neg` here, `Near-mul` in Product,
--- `near_quot` and `near_div_lem` in Quotient, `near_own` and
+-- computation: `near_int`, `near_add`, `near_sub`, `near_neg` here, `near_mul` in Product,
+-- `near_quot` and `near_div` in Quotient, `near_own` and
 -- `near_close` in CloseLaws, `near_between` in Range. In each, t is chosen so that the exact result
 -- is below 2 ^ t, and its rounding costs 2 ^ (46 + t).
 use mathlib.Core.Path.{◌≡◌, refl, sym, ap, ◌∙◌, subst}

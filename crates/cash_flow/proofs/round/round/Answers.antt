@@ -13,7 +13,7 @@ fitting : (s : Start) → T (fits binary64 s.args.y)
 fitting s = search rules
 
 field : (s : Start) → to_bits binary64 s.args.y % 9223372036854775808 / 4503599627370496 ≤ 1074
-field s = bits_below s.args.y (fitting s) s.requires.t_2.0 s.requires.t_2.1
+field s = bits_below s.args.y (fitting s) s.requires.below_2_52.0 s.requires.below_2_52.1
 
 pub nearest_whole-whole-requires : goal.nearest_whole-whole-requires
 nearest_whole-whole-requires c = record { field_bound = field c; mantissa_bound = omega arith }

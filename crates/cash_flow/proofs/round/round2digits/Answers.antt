@@ -26,7 +26,7 @@ pub round-requires : goal.round-requires
 round-requires c =
     let r = roundable c.before in
     let f = product_finite c.args.x c.args.digits r in
-    rw (power c) (record { t = finite_not_nan _ f; t_2 = (f, (rounding_means c.args.x c.args.digits r).small) })
+    rw (power c) (record { no_nan = finite_not_nan _ f; below_2_52 = (f, (rounding_means c.args.x c.args.digits r).small) })
 
 pub returns : goal.returns
 returns c = answer-given _ c.args.digits _ _ (roundable c.before.before) (power c.before) c.round.ensures

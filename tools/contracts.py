@@ -72,7 +72,9 @@ EXCEPTION = "## The exception"
 # In the head, where the table of zeros comes; and the zero in a definition `.._returned`.
 ZEROS = "<!-- zeros -->"
 ZERO = re.compile(r"= returned (\S+) ")
-RETURNED, OUTCOME = "_returned", "_outcome"
+RETURNED = "_returned"
+# How outcomes are joined, and how a result is one: no row tells it.
+JOINS = [("outcome", "Outcome.antt"), ("outcome", "Refusals.antt")]
 
 
 class Problems(list):
@@ -196,7 +198,8 @@ class Register:
         _, _, below = crate.sources["lib.rt"].partition("\n" + INNER)
         inner = {n for m in sources.HANDED_ON.finditer(below) for n in sources.items_used(m)}
         for item in crate.handed_on():
-            if item.module and (item.name in inner) != item.is_inner:
+            # A method goes with its type, whose name may stand on either side.
+            if item.module and not item.is_method and (item.name in inner) != item.is_inner:
                 name = f"{crate.name}::{item.name}"
                 self.problems.say(f"{name} stands on the wrong side of `{INNER}` in its door")
 
@@ -226,7 +229,7 @@ class Register:
 
     def tells(self, name, crate, file):
         """Not of a row: how outcomes are joined, how an answer is one, and C's plain numbers."""
-        if (crate, file) == ("outcome", "Outcome.antt") or name.endswith(OUTCOME):
+        if (crate, file) in JOINS:
             return False
         if (crate, file) != ("c_values", "arguments/Numbers.antt"):
             return True
@@ -444,6 +447,7 @@ def check_head(register, head):
     crates = register.crates.values()
     every = {(c.name, i.name) for c in crates for i in entry_points(c)}
     every |= {(c.name, i.name) for c in crates for i in c.items if i.is_inner}
+    every |= {(c.name, i.owner) for c in crates for i in c.items if i.is_method}
     edits = {(e.crate, e.label) for c in crates for e in c.edits}
     for name in NAMED_FUNCTION.findall(head):
         if name not in every:

@@ -10,10 +10,15 @@ from dataclasses import dataclass, field
 ROOT = os.path.dirname(os.path.dirname(os.path.abspath(__file__)))
 CRATES = os.path.join(ROOT, "crates")
 
-# A function or a constant at the beginning of a line, with what makes it public.
+# A function or a constant at the beginning of a line, with what makes it public; and a method.
 ITEM = re.compile(
     r'^(?P<pub>pub(?:\(crate\))? )?(?P<c>extern "C" )?(?P<kind>fn|const) (?P<name>\w+)', re.M
 )
+METHOD = re.compile(
+    r"^    (?P<pub>pub(?:\(crate\))? )?(?P<c>extern \"C\" )?(?P<kind>fn) (?P<name>\w+)", re.M
+)
+# A block of methods of a type: `impl Type {`, `impl<'a> Type<'a> {` or `impl Trait for Type {`.
+IMPL = re.compile(r"^impl(?:<[^>]*>)? (?:(?P<trait>[^{\n]*?) for )?(?P<type>\w+)[^{\n]*\{", re.M)
 # What a `use` brings in: an item, or several in braces.
 USED_ITEMS = r"(?:(?P<name>\w+)|\{(?P<names>[^{}]*)\});"
 # What a door hands on: `pub use module::item;`.
@@ -65,9 +70,21 @@ class Item:
     start: int = 0
     end: int = 0
 
+    # What stands above the block of a method.
+    of_block: list = field(default_factory=list)
+
+    @property
+    def is_method(self):
+        return "::" in self.name
+
+    @property
+    def owner(self):
+        return self.name.split("::")[0]
+
     @property
     def is_inner(self):
-        return bool(self.requires) or any(line.startswith("Inner:") for line in self.comment)
+        lines = self.comment + self.of_block
+        return bool(self.requires) or any(line.startswith("Inner:") for line in lines)
 
 
 @dataclass
@@ -128,7 +145,7 @@ def closing(text, at, pair):
 def comment_above(text, at):
     """The comment lines directly above a place, without their slashes; attributes are passed."""
     lines = []
-    for line in reversed(text[:at].splitlines()):
+    for line in map(str.strip, reversed(text[:at].splitlines())):
         if line.startswith("//"):
             lines.insert(0, line[2:].strip())
         elif not line.startswith("#["):
@@ -152,16 +169,21 @@ def items_of(crate, module, text):
     """The functions, constants and names from other crates of a source file."""
     plain = without_comments(text)
     found = []
-    for m in ITEM.finditer(plain):
+    named = [(m.group("name"), m, []) for m in ITEM.finditer(plain)]
+    for block, m in methods_of(plain):
+        above = comment_above(text, block.start())
+        named.append((f"{block.group('type')}::{m.group('name')}", m, above))
+    for name, m, of_block in named:
         item = Item(
             crate,
             module,
-            m.group("name"),
+            name,
             is_function=m.group("kind") == "fn",
             public=m.group("pub") == "pub ",
             for_c=bool(m.group("c")),
             comment=comment_above(text, m.start()),
             start=m.start(),
+            of_block=of_block,
         )
         if item.is_function:
             read_contract(plain, m.end(), item)
@@ -176,6 +198,15 @@ def items_of(crate, module, text):
             item.end = start = re.compile(rf"\b{name}\b").search(plain, start).end()
             found.append(item)
         item.end = m.end()
+    return found
+
+
+def methods_of(plain):
+    """The methods of a source file, each with its block; those of a trait are its type's too."""
+    found = []
+    for block in IMPL.finditer(plain):
+        end = closing(plain, block.end() - 1, "{}")
+        found += [(block, m) for m in METHOD.finditer(plain, block.end(), end)]
     return found
 
 
@@ -300,7 +331,8 @@ class Crate:
         names = {(m.group("module"), name) for m in HANDED_ON.finditer(door) for name in items_used(m)}
         rank = {module: k for k, module in enumerate(self.modules_lowest_first())}
         found = [i for i in self.items if i.is_function and i.public]
-        found = [i for i in found if not i.module or (i.module, i.name) in names]
+        # A method is reached with its type.
+        found = [i for i in found if not i.module or (i.module, i.owner) in names]
         return sorted(found, key=lambda i: (rank[i.module], i.start))
 
     def modules_lowest_first(self):
@@ -336,7 +368,11 @@ class Crate:
         source = self.sources[file_of(item.module)]
         brought = {n: m.group("module") for m in BROUGHT_IN.finditer(source) for n in items_used(m)}
         found = []
-        for path in RATTLE_PATH.findall(without_comments(self.text_of(item))):
+        text = without_comments(self.text_of(item))
+        called = set(re.findall(r"\.(\w+)\(", text))
+        methods = [i for i in self.items if "::" in i.name and i.name.split("::")[1] in called]
+        found += [i for i in methods if i is not item]
+        for path in RATTLE_PATH.findall(text):
             module, _, name = path.rpartition("::")
             if module:
                 other = self.item(module.removeprefix("crate::"), name)

@@ -11,7 +11,7 @@ use lib.ListN.{length, take, drop, set, length-append, length-set, take-append-d
 use lib.Seq.{take-suc-set, drop-set-lt, length-take-le}
 use Rattle.outcome.proofs.Lists.{tails_agree, every_append}
 use Rattle.bit_fields.specs.Bits.{Field, in_bits, field_bits, fields_bits, bits_of, bytes_of, AreBytes}
-use Rattle.bit_fields.specs.BitWriters.{HoldsPartOfAByte, put_so_far, FieldsPut}
+use Rattle.bit_fields.specs.BitWriters.{bits_so_far, put_so_far, FieldsPut}
 use Rattle.bit_fields.specs.declared.BitWriter.{BitWriter}
 use Rattle.bit_fields.proofs.Bits.{length-field, one_field, field-split, field_cut, fields_append, bits_of_append, one_byte, bytes_back, length-bytes}
 use Rattle.number_text.specs.write.Writing.{put}
@@ -75,12 +75,12 @@ module _ {out₀ : List ℕ} {place₀ count₀ bits₀ : ℕ} {out : List ℕ} 
 
 -- ---- a field behind the bits at hand
 
-module _ (p : BitWriter) (w x m : ℕ) (h : HoldsPartOfAByte p) (k : w ≤ 56) (l : x < 2 ^ w) (e : m ≡ 2 ^ w) where
+module _ (p : BitWriter) (w x m : ℕ) (k : w ≤ 56) (l : x < 2 ^ w) (e : m ≡ 2 ^ w) where
   pub gathered_below : p.bits * m + x < 2 ^ (p.count + w)
-  gathered_below = rw (e, pow-add 2 p.count w) (digits_lt h.1 l)
+  gathered_below = rw (e, pow-add 2 p.count w) (digits_lt p.held l)
 
   pub gathered_fits : p.bits * m + x < 18446744073709551616
-  gathered_fits = let n : p.count + w ≤ 64 = omega (arith, h.0) in lt_of_lt_of_le gathered_below (pow_mono {j = 64} n)
+  gathered_fits = let n : p.count + w ≤ 64 = omega (arith, p.part_of_a_byte) in lt_of_lt_of_le gathered_below (pow_mono {j = 64} n)
 
   gathered_bits : field_bits (p.count + w) (p.bits * m + x) ≡ field_bits p.count p.bits ++ field_bits w x
   gathered_bits =
@@ -89,11 +89,10 @@ module _ (p : BitWriter) (w x m : ℕ) (h : HoldsPartOfAByte p) (k : w ≤ 56) (
       let low : field_bits w N ≡ field_bits w x = sym (field_cut w N) ∙ ap (field_bits w) (digits_mod p.bits l) in
       rw (e) (field-split p.count w N ∙ rw (top, low))
 
-  pub field_put : (out₀ out : List ℕ) (place count bits : ℕ) → Flushed out₀ p.place (p.count + w) (p.bits * m + x) out place count bits → count < 8
-      → FieldsPut out₀ out p (record { place = place; count = count; bits = bits }) w (in_bits w x ∷ [])
-  field_put out₀ out place count bits f c = record {
-    held = (c, f.below);
-    standing = f.standing ∙ rw (gathered_bits, one_field (in_bits w x)) (sym (append_assoc (bits_of (take p.place out₀)) (field_bits p.count p.bits) (field_bits w x)));
+  pub field_put : (r : BitWriter) → r.out.ghost_name ≡ p.out.ghost_name → Flushed p.out.now p.place (p.count + w) (p.bits * m + x) r.out.now r.place r.count r.bits → FieldsPut p r w (in_bits w x ∷ [])
+  field_put r g f = record {
+    same_reference = g;
+    standing = f.standing ∙ rw (gathered_bits, one_field (in_bits w x)) (sym (append_assoc (bits_of (take p.place p.out.now)) (field_bits p.count p.bits) (field_bits w x)));
     bytes = f.bytes;
     past = f.past;
     same_length = f.same_length;
@@ -104,23 +103,23 @@ module _ (p : BitWriter) (w x m : ℕ) (h : HoldsPartOfAByte p) (k : w ≤ 56) (
 -- ---- all of them
 
 -- since the bytes d, the bits s were put
-pub record BitsPut (d e : List ℕ) (p : BitWriter) (s : List ℕ) : Type 0 where
-  pub held : HoldsPartOfAByte p
-  pub standing : put_so_far e p ≡ s
-  pub bytes : AreBytes (take p.place e)
-  pub past : drop p.place e ≡ drop p.place d
-  pub same_length : length e ≡ length d
-  pub placed : 8 * p.place + p.count ≡ length s
+pub record BitsPut (d : List ℕ) (p : BitWriter) (s : List ℕ) : Type 0 where
+  pub standing : put_so_far p ≡ s
+  pub bytes : AreBytes (take p.place p.out.now)
+  pub past : drop p.place p.out.now ≡ drop p.place d
+  pub same_length : length p.out.now ≡ length d
+  pub placed : bits_so_far p ≡ length s
 
 no_bits : (n : ℕ) → field_bits 0 n ≡ []
 unfolding field_bits
 no_bits n = refl
 
 -- where the fields end at a byte's end, their bytes stand in front of the old ones
-pub bits_put_all : (d e : List ℕ) (p : BitWriter) (s : List ℕ) (k : ℕ) → BitsPut d e p s → length s ≡ 8 * k → k ≤ length d → (e ≡ put d 0 (bytes_of k s)) × (p.place ≡ k)
-bits_put_all d e p s k i l h =
-    let whole : p.place ≡ k = omega (arith, i.placed, i.held.0) in
-    let none : p.count ≡ 0 = omega (arith, i.placed, i.held.0) in
+pub bits_put_all : (d : List ℕ) (p : BitWriter) (s : List ℕ) (k : ℕ) → BitsPut d p s → length s ≡ 8 * k → k ≤ length d → (p.out.now ≡ put d 0 (bytes_of k s)) × (p.place ≡ k)
+bits_put_all d p s k i l h =
+    let e : List ℕ = p.out.now in
+    let whole : p.place ≡ k = omega (arith, i.placed, p.part_of_a_byte) in
+    let none : p.count ≡ 0 = omega (arith, i.placed, p.part_of_a_byte) in
     let front : bits_of (take k e) ≡ s = sym (append-nil (bits_of (take k e))) ∙ (rw (whole, none, no_bits p.bits) at i.standing) in
     let size : length (take k e) ≡ k = length-take-le k e (omega (arith, i.same_length)) in
     let bytes : bytes_of k s ≡ take k e = ap (bytes_of k) (sym front) ∙ ap (λ (n : ℕ). bytes_of n (bits_of (take k e))) (sym size) ∙ bytes_back (take k e) (rw (whole) at i.bytes) in
@@ -128,34 +127,34 @@ bits_put_all d e p s k i l h =
 
 -- ---- fields one after the other
 
-pub put-none : (d : List ℕ) (p : BitWriter) → HoldsPartOfAByte p → FieldsPut d d p p 0 []
+pub put-none : (p : BitWriter) → FieldsPut p p 0 []
 unfolding fields_bits
-put-none d p h = record {
-  held = h;
-  standing = sym (append-nil (put_so_far d p));
+put-none p = record {
+  same_reference = refl;
+  standing = sym (append-nil (put_so_far p));
   bytes = λ a. a;
   past = refl;
   same_length = refl;
-  moved = sym (add-zero (8 * p.place + p.count));
+  moved = sym (add-zero (bits_so_far p));
   counted = refl;
 }
 
-pub put_then : {d e f : List ℕ} {p q r : BitWriter} {m n : ℕ} {fs gs : List Field} → FieldsPut d e p q m fs → FieldsPut e f q r n gs → FieldsPut d f p r (m + n) (fs ++ gs)
-put_then {d} {e} {f} {p} {q} {r} {m} {n} {fs} {gs} a b = record {
-  held = b.held;
-  standing = b.standing ∙ ap (λ (x : List ℕ). x ++ fields_bits gs) a.standing ∙ append_assoc (put_so_far d p) (fields_bits fs) (fields_bits gs) ∙ ap (λ (x : List ℕ). put_so_far d p ++ x) (sym (fields_append fs gs));
+pub put_then : {p q r : BitWriter} {m n : ℕ} {fs gs : List Field} → FieldsPut p q m fs → FieldsPut q r n gs → FieldsPut p r (m + n) (fs ++ gs)
+put_then {p} {q} {r} {m} {n} {fs} {gs} a b = record {
+  same_reference = b.same_reference ∙ a.same_reference;
+  standing = b.standing ∙ ap (λ (x : List ℕ). x ++ fields_bits gs) a.standing ∙ append_assoc (put_so_far p) (fields_bits fs) (fields_bits gs) ∙ ap (λ (x : List ℕ). put_so_far p ++ x) (sym (fields_append fs gs));
   bytes = λ x. b.bytes (a.bytes x);
-  past = b.past ∙ tails_agree e d q.place r.place (omega (arith, b.moved, a.held.0, b.held.0)) a.past;
+  past = b.past ∙ tails_agree q.out.now p.out.now q.place r.place (omega (arith, b.moved, q.part_of_a_byte, r.part_of_a_byte)) a.past;
   same_length = b.same_length ∙ a.same_length;
   moved = omega (arith, a.moved, b.moved);
   counted = ap length (fields_append fs gs) ∙ omega (arith, length-append (fields_bits fs) (fields_bits gs), a.counted, b.counted);
 }
 
 -- the same bits as other fields
-pub put_is : {d e : List ℕ} {p r : BitWriter} {m n : ℕ} {fs gs : List Field} → FieldsPut d e p r m fs → m ≡ n → fields_bits fs ≡ fields_bits gs → FieldsPut d e p r n gs
-put_is {d} {e} {p} {r} {m} {n} {fs} {gs} a i j = record {
-  held = a.held;
-  standing = a.standing ∙ ap (λ (x : List ℕ). put_so_far d p ++ x) j;
+pub put_is : {p r : BitWriter} {m n : ℕ} {fs gs : List Field} → FieldsPut p r m fs → m ≡ n → fields_bits fs ≡ fields_bits gs → FieldsPut p r n gs
+put_is {p} {r} {m} {n} {fs} {gs} a i j = record {
+  same_reference = a.same_reference;
+  standing = a.standing ∙ ap (λ (x : List ℕ). put_so_far p ++ x) j;
   bytes = a.bytes;
   past = a.past;
   same_length = a.same_length;
@@ -171,25 +170,21 @@ in_two a b x =
     ∙ sym (append_assoc (field_bits a (x / 2 ^ b)) (field_bits b x) [])
     ∙ ap (λ (s : List ℕ). s ++ []) (sym (field-split a b x))
 
-pub put_in_two : {d e f : List ℕ} {p q r : BitWriter} (w x : ℕ) → 32 ≤ w → FieldsPut d e p q (w - 32) (in_bits (w - 32) (x / 4294967296) ∷ []) → FieldsPut e f q r 32 (in_bits 32 (x % 4294967296) ∷ []) → FieldsPut d f p r w (in_bits w x ∷ [])
+pub put_in_two : {p q r : BitWriter} (w x : ℕ) → 32 ≤ w → FieldsPut p q (w - 32) (in_bits (w - 32) (x / 4294967296) ∷ []) → FieldsPut q r 32 (in_bits 32 (x % 4294967296) ∷ []) → FieldsPut p r w (in_bits w x ∷ [])
 put_in_two w x h a b =
     let e : w - 32 + 32 ≡ w = omega arith in
     put_is (put_then a b) e (in_two (w - 32) 32 x ∙ ap (λ (k : ℕ). fields_bits (in_bits k x ∷ [])) e)
 
 -- ---- from the first byte on
 
-abbrev pub at_start : BitWriter
-at_start = record { place = 0; count = 0; bits = 0 }
-
-start_none : (d : List ℕ) → put_so_far d at_start ≡ []
+start_none : (p : BitWriter) → p.place ≡ 0 → p.count ≡ 0 → put_so_far p ≡ []
 unfolding bits_of fields_bits field_bits
-start_none d = refl
+start_none p e f = rw (e, f)
 
-pub put_from_start : {d e : List ℕ} {r : BitWriter} {n : ℕ} {fs : List Field} → FieldsPut d e at_start r n fs → BitsPut d e r (fields_bits fs)
-put_from_start {d} {fs = fs} a = record {
-  held = a.held;
-  standing = a.standing ∙ ap (λ (s : List ℕ). s ++ fields_bits fs) (start_none d);
-  bytes = a.bytes (omega arith);
+pub put_from_start : {p r : BitWriter} {n : ℕ} {fs : List Field} → (p.place ≡ 0) × (p.count ≡ 0) → FieldsPut p r n fs → BitsPut p.out.now r (fields_bits fs)
+put_from_start {p} {fs = fs} s a = record {
+  standing = a.standing ∙ ap (λ (s : List ℕ). s ++ fields_bits fs) (start_none p s.0 s.1);
+  bytes = a.bytes (rw (s.0) (omega arith));
   past = a.past;
   same_length = a.same_length;
   placed = omega (arith, a.moved, a.counted);

@@ -7,11 +7,11 @@ use native.Mathlib.Omega.{arith}
 use lib.Arith.{digits_div, digits_mod}
 use lib.Pow.{pow-add, pow_mono}
 use lib.ListN.{length, take, drop, get_or, length-append, length-drop, take-append-drop}
-use lib.Seq.{take-suc, take-add, take_at, drop_at, drop-nil, drop-drop, drop-append-add, get_or-drop, length-take-le}
+use lib.Seq.{take-add, take_at, drop_at, drop-nil, drop-drop, drop-append-add, length-take-le}
 use Rattle.outcome.specs.Lists.{Every}
-use Rattle.outcome.proofs.Lists.{every_append, every_take, every_drop}
+use Rattle.outcome.proofs.Lists.{take_more, every_append, every_take, every_drop}
 use Rattle.number_text.proofs.length.Numerals.{numeral, worth, Digit, length_numeral, numeral_are, numeral_split, worth_append, worth_value, worth_below, worth_numeral, numeral_worth}
-use Rattle.bit_fields.specs.Bits.{Field, in_bits, field_bits, fields_bits, continued_bits, bits_number, bits_of, field, bytes_number, bytes_of, AreBytes}
+use Rattle.bit_fields.specs.Bits.{Field, in_bits, field_bits, fields_bits, continued_bits, bits_number, bits_of, field, bytes_of, AreBytes}
 
 -- ---- bits are numerals to the base two
 
@@ -164,42 +164,27 @@ bytes-are (suc k) s h e =
 
 -- ---- reading a field by whole bytes
 
-pub bytes-none : (s : List ℕ) (i : ℕ) → bytes_number s i 0 ≡ 0
-unfolding bits_of fields_bits continued_bits
-bytes-none s i = refl
-
 pub one_byte : (b : ℕ) → bits_of (b ∷ []) ≡ field_bits 8 b
 unfolding bits_of
 one_byte b = one_field (in_bits 8 b)
 
-pub bytes-more : (s : List ℕ) (i k : ℕ) → i + k < length s → get_or s (i + k) 0 < 256 → bytes_number s i (suc k) ≡ bytes_number s i k * 256 + get_or s (i + k) 0
-bytes-more s i k h l =
-    let b : ℕ = get_or s (i + k) 0 in
-    let part : List ℕ = take k (drop i s) in
-    let longer : take (suc k) (drop i s) ≡ part ++ (b ∷ []) =
-    take-suc (drop i s) k 0 (omega (arith, length-drop i s)) ∙ ap (λ (x : ℕ). part ++ (x ∷ [])) (get_or-drop i s k 0) in
-    let eight : 2 ^ length (field_bits 8 b) ≡ 256 = ap (λ (n : ℕ). 2 ^ n) (length-field 8 b) in
-    ap (λ (t : List ℕ). bits_number (bits_of t)) longer
+-- seven bytes leave room for one more
+pub bytes_small : (s : List ℕ) (k n : ℕ) → n ≡ bits_number (bits_of (take k s)) → k ≤ length s → k ≤ 7 → n < 72057594037927936
+bytes_small s k n e h l =
+    let size : length (bits_of (take k s)) ≡ 8 * k = omega (arith, length-bits (take k s), length-take-le k s h) in
+    rw (e) (lt_of_lt_of_le (number-below (bits_of (take k s)) (bits_are (take k s))) (pow_mono {j = 56} (omega arith)))
+
+-- and it is the next one
+pub bytes_more : (s : List ℕ) (k n b : ℕ) → k < length s → n ≡ bits_number (bits_of (take k s)) → b ≡ get_or s k 0 → b < 256 → n * 256 + b ≡ bits_number (bits_of (take (k + 1) s))
+bytes_more s k n b h e f l =
+    let part : List ℕ = take k s in
+    let eight : 2 ^ length (field_bits 8 b) ≡ 256 = ap (λ (w : ℕ). 2 ^ w) (length-field 8 b) in
+    sym (
+    ap (λ (t : List ℕ). bits_number (bits_of t)) (take_more s k 0 h ∙ ap (λ (x : ℕ). part ++ (x ∷ [])) (sym f))
     ∙ ap bits_number (bits_of_append part (b ∷ []) ∙ ap (λ (t : List ℕ). bits_of part ++ t) (one_byte b))
     ∙ number_append (bits_of part) (field_bits 8 b)
-    ∙ rw (eight, number-field 8 b l)
-
-pub bytes_below : (s : List ℕ) (i k : ℕ) → i + k ≤ length s → bytes_number s i k < 2 ^ (8 * k)
-bytes_below s i k h =
-    let e : length (bits_of (take k (drop i s))) ≡ 8 * k = omega (arith, length-bits (take k (drop i s)), length-take-le k (drop i s) (omega (arith, length-drop i s))) in
-    rw (← e) (number-below (bits_of (take k (drop i s))) (bits_are (take k (drop i s))))
-
--- seven bytes leave room for one more
-pub bytes_seven : (s : List ℕ) (i k n : ℕ) → n ≡ bytes_number s i k → i + k ≤ length s → k ≤ 7 → n < 72057594037927936
-bytes_seven s i k n e h l = rw (e) (lt_of_lt_of_le (bytes_below s i k h) (pow_mono {j = 56} (omega arith)))
-
--- the next byte, where the loop stands at place j
-pub bytes_next : (s : List ℕ) (i j n b : ℕ) → i ≤ j → j < length s → n ≡ bytes_number s i (j - i) → b ≡ get_or s j 0 → b < 256 → n * 256 + b ≡ bytes_number s i (j + 1 - i)
-bytes_next s i j n b h l e f g =
-    let p : i + (j - i) ≡ j = omega arith in
-    let q : suc (j - i) ≡ j + 1 - i = omega arith in
-    let m : bytes_number s i (suc (j - i)) ≡ bytes_number s i (j - i) * 256 + get_or s (i + (j - i)) 0 = bytes-more s i (j - i) (omega arith) (rw (p, ← f) g) in
-    rw (e, f, ← q) (ap (λ (x : ℕ). bytes_number s i (j - i) * 256 + get_or s x 0) (sym p) ∙ sym m)
+    ∙ rw (eight, number-field 8 b l, e)
+    )
 
 -- three parts, the middle one taken out
 middle : (xs ys zs : List ℕ) → AreBits ys → AreBits zs → bits_number (xs ++ (ys ++ zs)) / 2 ^ length zs % 2 ^ length ys ≡ bits_number ys
@@ -214,7 +199,7 @@ middle xs ys zs h k =
     ∙ rw (number_append ys zs, length-append ys zs, pow-add 2 (length ys) (length zs), add-mul (A * w) F t, mul_assoc A w t) (sym (add_assoc (A * (w * t)) (F * t) Z)) in
     ap (λ (n : ℕ). n / t % w) both ∙ ap (λ (n : ℕ). n % w) (digits_div (A * w + F) (number-below zs k)) ∙ digits_mod A (number-below ys h)
 
-pub field_read : (s : List ℕ) (at w i k t : ℕ) → 8 * i ≤ at → at + w + t ≡ 8 * (i + k) → i + k ≤ length s → bytes_number s i k / 2 ^ t % 2 ^ w ≡ field s at w
+pub field_read : (s : List ℕ) (at w i k t : ℕ) → 8 * i ≤ at → at + w + t ≡ 8 * (i + k) → i + k ≤ length s → bits_number (bits_of (take k (drop i s))) / 2 ^ t % 2 ^ w ≡ field s at w
 unfolding field
 field_read s at w i k t h e l =
     let p : ℕ = at - 8 * i in
@@ -241,7 +226,7 @@ field_read s at w i k t h e l =
     ∙ ap (λ (r : List ℕ). bits_number (take w r)) there
 
 -- the same as the code has it
-pub field-whole : (s : List ℕ) (at w n p : ℕ) → n ≡ bytes_number s (at / 8) ((at + w + 7) / 8 - at / 8) → p ≡ 2 ^ w → at + w ≤ 8 * length s → n / 2 ^ ((at + w + 7) / 8 * 8 - at - w) % p ≡ field s at w
+pub field-whole : (s : List ℕ) (at w n p : ℕ) → n ≡ bits_number (bits_of (take ((at + w + 7) / 8 - at / 8) (drop (at / 8) s))) → p ≡ 2 ^ w → at + w ≤ 8 * length s → n / 2 ^ ((at + w + 7) / 8 * 8 - at - w) % p ≡ field s at w
 field-whole s at w n p e f h =
     rw (e, f) (field_read s at w (at / 8) ((at + w + 7) / 8 - at / 8) ((at + w + 7) / 8 * 8 - at - w) (omega arith) (omega arith) (omega arith))
 

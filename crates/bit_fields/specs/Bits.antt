@@ -37,10 +37,6 @@ bits_of s = fields_bits (map (in_bits 8) s)
 unfoldable pub field : List ℕ → ℕ → ℕ → ℕ
 field s at w = bits_number (take w (drop at (bits_of s)))
 
--- the number in the k bytes from byte i on
-abbrev pub bytes_number : List ℕ → ℕ → ℕ → ℕ
-bytes_number s i k = bits_number (bits_of (take k (drop i s)))
-
 -- the k bytes that bits are
 unfoldable pub bytes_of : ℕ → List ℕ → List ℕ
 bytes_of zero s = []

@@ -2,26 +2,11 @@
 // them one after the other.
 #![tactic(auto)]
 
-ghost use Rattle.std.specs.Prelude.{◌≡◌, ◌+◌, ◌-◌, ◌*◌, ◌≤◌, ◌<◌, ◌^◌, [], ◌∷◌, length};
-ghost use Rattle.bit_fields.specs.Bits.{in_bits, bytes_number, field};
-ghost use Rattle.bit_fields.specs.BitWriters.{HoldsPartOfAByte, FieldsPut};
-
-// Bytes that are written, and the bits of the next one that are at hand.
-#[derive(Clone, Copy)]
-pub struct BitWriter {
-    pub place: usize,
-    pub count: usize,
-    pub bits: u64,
-}
+ghost use Rattle.std.specs.Prelude.{◌≡◌, ◌+◌, ◌*◌, ◌≤◌, ◌<◌, ◌^◌, length};
+ghost use Rattle.bit_fields.specs.Bits.{bits_number, bits_of, field};
 
 // Behind seven bits at hand it still fits a word.
 const WIDEST_PART: usize = 56;
-
-fn wide(x: u8) -> u64
-    ensures { (result ≡ x) × (result < 256) }
-{
-    x as u64
-}
 
 fn power_of_two(p: usize) -> u64
     requires { p < 64 }
@@ -30,16 +15,14 @@ fn power_of_two(p: usize) -> u64
     1 << p
 }
 
-// The number in the whole bytes from one place to another, eight at the most.
-fn bytes_number(s: &[u8], first: usize, end: usize) -> u64
-    requires { (first ≤ end) × (end ≤ first + 8) × (end ≤ length s.now) }
-    ensures { (result ≡ bytes_number s.now first (end - first)) × (result < 2 ^ 64) }
+// The number that bytes are, eight at the most.
+fn bytes_number(s: &[u8]) -> u64
+    requires { length s.now ≤ 8 }
+    ensures { result ≡ bits_number (bits_of s.now) }
 {
-    let mut n: u64 = 0;
-    let mut i = first;
-    while i < end {
-        n = n * 256 + wide(s[i]);
-        i += 1;
+    let mut n = 0;
+    for b in s {
+        n = n * 256 + u64::from(*b);
     }
     n
 }
@@ -50,7 +33,7 @@ fn read_part(s: &[u8], at: usize, width: usize) -> u64
     ensures { result ≡ field s.now at width }
 {
     let end = (at + width + 7) / 8;
-    let n = bytes_number(s, at / 8, end);
+    let n = bytes_number(&s[at / 8..end]);
     (n >> (end * 8 - at - width)) % power_of_two(width)
 }
 
@@ -67,31 +50,74 @@ pub fn read_field(s: &[u8], at: usize, width: usize) -> u64
     read_part(s, at, high) * 4294967296 + read_part(s, at + high, 32)
 }
 
-// A field that fits a word behind the bits at hand.
-fn put_part(writer: BitWriter, x: u64, width: usize, out: &mut [u8]) -> BitWriter
-    requires { (HoldsPartOfAByte writer) × (width ≤ 56) × (x < 2 ^ width) × (8 * writer.place + writer.count + width ≤ 8 * length out.old) }
-    ensures { FieldsPut out.old out.new writer result width (in_bits width x ∷ []) }
-{
-    let mut place = writer.place;
-    let mut count = writer.count + width;
-    let mut bits = writer.bits * power_of_two(width) + x;
-    while 8 <= count {
-        count -= 8;
-        out[place] = (bits >> count) as u8;
-        bits = bits % power_of_two(count);
-        place += 1;
-    }
-    BitWriter { place, count, bits }
+// Lent bytes into which fields are put: how many bytes are written, and the bits of the next one
+// that are at hand.
+#[derive(Drop)]
+pub struct BitWriter<'a> {
+    out: &'a mut [u8],
+    pub place: usize,
+    count: usize,
+    bits: u64,
+    pub ghost part_of_a_byte: { count < 8 },
+    pub ghost held: { bits < 2 ^ count },
 }
 
-// Inner: a field put behind those that are put already; asks for room, and a number that fits.
-pub fn put_field(writer: BitWriter, x: u64, width: usize, out: &mut [u8]) -> BitWriter
-    requires { (HoldsPartOfAByte writer) × (width ≤ 64) × (x < 2 ^ width) × (8 * writer.place + writer.count + width ≤ 8 * length out.old) }
-    ensures { FieldsPut out.old out.new writer result width (in_bits width x ∷ []) }
-{
-    if width <= WIDEST_PART {
-        return put_part(writer, x, width, out);
+impl<'a> BitWriter<'a> {
+    ghost use Rattle.std.specs.Prelude.{[], ◌∷◌};
+    ghost use Rattle.bit_fields.specs.Bits.{in_bits};
+    ghost use Rattle.bit_fields.specs.BitWriters.{HasRoom, FieldsPut, to_the_byte};
+
+    // Inner: a writer at the first of the lent bytes.
+    pub fn new(out: &'a mut [u8]) -> BitWriter<'a>
+        ensures same_reference { result.out.ghost_name ≡ out.entry.ghost_name }
+        ensures same_bytes { result.out.now ≡ out.old }
+        ensures start { (result.place ≡ 0) × (result.count ≡ 0) }
+    {
+        BitWriter {
+            out,
+            place: 0,
+            count: 0,
+            bits: 0,
+        }
     }
-    let high = put_part(writer, x / 4294967296, width - 32, out);
-    put_part(high, x % 4294967296, 32, out)
+
+    // A field that fits a word behind the bits at hand.
+    fn put_part(&mut self, x: u64, width: usize)
+        requires { (width ≤ 56) × (x < 2 ^ width) × HasRoom self.old width }
+        ensures { FieldsPut self.old self.new width (in_bits width x ∷ []) }
+    {
+        let mut count = self.count + width;
+        let mut bits = self.bits * power_of_two(width) + x;
+        let mut place = self.place;
+        // No count of turns: a whole byte leaves in each, and a `for` would need the number of them.
+        while 8 <= count {
+            count -= 8;
+            self.out[place] = (bits >> count) as u8;
+            bits = bits % power_of_two(count);
+            place += 1;
+        }
+        self.place = place;
+        self.count = count;
+        self.bits = bits;
+    }
+
+    // Inner: a field put behind those that are put already; asks for room, and a number that fits.
+    pub fn put(&mut self, x: u64, width: usize)
+        requires { (width ≤ 64) × (x < 2 ^ width) × HasRoom self.old width }
+        ensures { FieldsPut self.old self.new width (in_bits width x ∷ []) }
+    {
+        if width <= WIDEST_PART {
+            return self.put_part(x, width);
+        }
+        self.put_part(x / 4294967296, width - 32);
+        self.put_part(x % 4294967296, 32);
+    }
+
+    // Inner: zero bits to the byte.
+    pub fn fill_byte(&mut self)
+        requires { HasRoom self.old (to_the_byte self.old) }
+        ensures { FieldsPut self.old self.new (to_the_byte self.old) (in_bits (to_the_byte self.old) 0 ∷ []) }
+    {
+        self.put(0, (8 - self.count) % 8);
+    }
 }

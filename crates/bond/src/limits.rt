@@ -2,7 +2,7 @@
 ghost use Rattle.bond.specs.limits.Limits.{NoteNumberPromise, CouponRatePromise};
 
 // How many digits, and the digits as a number: 00417 and 417 are two numbers.
-#[derive(Clone, Copy)]
+#[derive(Clone, Copy, Debug, PartialEq, Eq)]
 pub struct NoteNumber {
     pub count: u32,
     pub digits: u64,
@@ -12,12 +12,12 @@ pub struct NoteNumber {
 pub const NO_RATE: u64 = 0x7ff0_0000_0000_0000;
 
 // Whether a note's number has 1 to 10 digits, as many as it says.
+#[tactic(auto, unfolding(crate::specs::limits::Limits::is_note_number))]
 pub fn is_note_number(number: NoteNumber) -> bool
     ensures { NoteNumberPromise number result }
 {
-    let count = number.count;
     let digits = number.digits;
-    match count {
+    match number.count {
         1 => digits < 10,
         2 => digits < 100,
         3 => digits < 1_000,
@@ -33,14 +33,12 @@ pub fn is_note_number(number: NoteNumber) -> bool
 }
 
 // Whether a rate in percent is finite, from 0 to 100, its sign bit clear.
+#[tactic(auto, using(crate::proofs::limits::Limits::nan_no_rate, crate::proofs::limits::Limits::rate_high, crate::proofs::limits::Limits::rate_low))]
 pub fn is_coupon_rate(rate: f64) -> bool
     ensures { CouponRatePromise rate result }
 {
-    if rate != rate {
+    if rate.is_nan() {
         return false;
     }
-    if NO_RATE <= f64::to_bits(rate) {
-        return false;
-    }
-    rate <= 100.0
+    rate.to_bits() < NO_RATE && rate <= 100.0
 }

@@ -5,9 +5,9 @@ pub mod days;
 pub mod table;
 pub mod walk;
 
-pub use days::{BusinessAnswer, bdays_earlier, bdays_later, is_business_day, next_bday, prev_bday};
-pub use table::{MOST_HOLIDAYS, Place, is_table};
+pub use days::{bdays_earlier, bdays_later, is_business_day, next_bday, prev_bday};
+pub use table::{MOST_HOLIDAYS, is_table};
 
 // Inner: for the crates of the register, which have judged what these ask for.
-pub use table::place_in;
-pub use walk::{business_at, earlier_from, later_from, lower_bound_from, next_at, prev_at};
+pub use table::Holidays;
+pub use walk::Spot;

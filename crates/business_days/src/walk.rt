@@ -1,12 +1,14 @@
 // The business days around a day, over a holiday table that is judged: what finql asks of
 // `cal_calc`. The weekend is Saturday and Sunday.
-ghost use Rattle.std.specs.Prelude.{◌≡◌, true, ◌∷◌, ◌+◌, ◌≤◌, length, get_or};
-ghost use Rattle.calendar.specs.serial.Answers.{day_outcome};
-ghost use Rattle.business_days.specs.table.Table.{ascending};
+ghost use Rattle.std.specs.Prelude.{◌≡◌, true, false, ◌∷◌, ◌+◌, ◌≤◌, length, get_or, MatchOption};
+ghost use Rattle.outcome.specs.Refusals.{outcome_of};
+ghost use Rattle.business_days.specs.table.Table.{is_table};
 ghost use Rattle.business_days.specs.table.Business.{is_weekend, is_business, next_from, prev_from, later_from, earlier_from};
-ghost use Rattle.business_days.specs.table.Search.{JudgedDay, IsLowerBound};
+ghost use Rattle.business_days.specs.table.Search.{IsLowerBound};
 
-use calendar::{Day, DayAnswer, LAST_DAY};
+use crate::table::{Holidays, SHORT, judge_short};
+use calendar::{Day, LAST_DAY};
+use outcome::Refusal;
 
 const FIRST_DAY: u32 = 1;
 
@@ -31,7 +33,7 @@ fn is_weekend(n: u32) -> bool
 fn holiday_at(table: &[u32], i: usize) -> u32
     ensures { result ≡ get_or table.now i 0 }
 {
-    if i < table.len() { table[i] } else { 0 }
+    table.get(i).copied().unwrap_or(0)
 }
 
 // The holiday before a place; 0, which is no day, at the start.
@@ -42,136 +44,166 @@ fn holiday_before(table: &[u32], i: usize) -> u32
     if 0 < i { table[i - 1] } else { 0 }
 }
 
-// Inner: the first place not before a day, from one near it; asks for ascending holidays.
-pub fn lower_bound_from(table: &[u32], n: u32, hint: usize) -> usize
-    requires { ascending table.now ≡ true }
-    ensures { IsLowerBound table.now n result }
-{
-    // A rollout's days come in order, so that it searches once and then passes its holidays.
-    if table.len() < hint {
-        return crate::table::lower_bound(table, n);
-    }
-    if n <= holiday_before(table, hint) {
-        return crate::table::lower_bound(table, n);
-    }
-    let mut i = hint;
-    while i < table.len() {
-        if n <= table[i] {
-            return i;
-        }
-        i += 1;
-    }
-    i
-}
-
 // Day by day, with the next holiday alongside: over the part of the table that begins with the
 // first holiday after n.
-fn walk_on(part: &[u32], n: u32, k: u32) -> DayAnswer
+fn walk_on(part: &[u32], n: u32, k: u32) -> Result<Day, Refusal>
     requires { (IsLowerBound part.now (n + 1) 0) × (n ≤ 3652059) }
-    ensures { day_outcome result ≡ later_from part.now k n }
+    ensures { outcome_of result ≡ later_from part.now k n }
 {
-    let mut at = n;
+    if k == 0 {
+        return Ok(Day(n));
+    }
     let mut left = k;
     let mut i: usize = 0;
     let mut holiday = holiday_at(part, i);
-    while 0 < left {
-        if LAST_DAY <= at {
-            return DayAnswer::Refused(outcome::INVALID_DATE);
-        }
-        at += 1;
+    for at in n + 1..LAST_DAY + 1 {
         if at == holiday {
             i += 1;
             holiday = holiday_at(part, i);
-            continue;
+        } else if !is_weekend(at) {
+            left -= 1;
+            if left == 0 {
+                return Ok(Day(at));
+            }
         }
-        if is_weekend(at) {
-            continue;
-        }
-        left -= 1;
     }
-    DayAnswer::Day(Day(at))
+    Err(Refusal::InvalidDate)
 }
 
-// The same backwards: over the part of the table that ends with the last holiday before n.
-fn walk_back(part: &[u32], n: u32, k: u32) -> DayAnswer
+// The same backwards: over the part of the table that ends with the last holiday before n. One
+// function for both ways would ask the way at every day.
+fn walk_back(part: &[u32], n: u32, k: u32) -> Result<Day, Refusal>
     requires { (IsLowerBound part.now n (length part.now)) × (1 ≤ n) × (n ≤ 3652059) }
-    ensures { day_outcome result ≡ earlier_from part.now k n }
+    ensures { outcome_of result ≡ earlier_from part.now k n }
 {
-    let mut at = n;
+    if k == 0 {
+        return Ok(Day(n));
+    }
     let mut left = k;
     let mut i = part.len();
     let mut holiday = holiday_before(part, i);
-    while 0 < left {
-        if at <= FIRST_DAY {
-            return DayAnswer::Refused(outcome::INVALID_DATE);
-        }
-        at -= 1;
+    for at in (FIRST_DAY..n).rev() {
         if at == holiday {
             i -= 1;
             holiday = holiday_before(part, i);
-            continue;
+        } else if !is_weekend(at) {
+            left -= 1;
+            if left == 0 {
+                return Ok(Day(at));
+            }
         }
-        if is_weekend(at) {
-            continue;
+    }
+    Err(Refusal::InvalidDate)
+}
+
+// A serial day and its place among holidays: that of the first that is not before it. The methods
+// are inlined, so that the parts stay in registers.
+#[derive(Clone, Copy)]
+pub struct Spot<'a> {
+    pub day: u32,
+    pub holidays: Holidays<'a>,
+    pub place: usize,
+    pub ghost from: { 1 ≤ day },
+    pub ghost to: { day ≤ 3652059 },
+    pub ghost placed: { IsLowerBound holidays.days.now day place },
+}
+
+impl<'a> Spot<'a> {
+    // Inner: a day's spot in a table, or that the table is not taken; asks for a day that exists.
+    #[inline(always)]
+    pub fn judged(day: u32, table: &'a [u32]) -> Option<Spot<'a>>
+        requires { (1 ≤ day) × (day ≤ 3652059) }
+        ensures { MatchOption result (is_table table.now ≡ false) (λ s. (is_table table.now ≡ true) × (s.day ≡ day) × (s.holidays.days.now ≡ table.now)) }
+    {
+        // A short table is judged and searched in one pass.
+        if table.len() < SHORT {
+            let place = judge_short(table, day)?;
+            return Some(Spot {
+                day,
+                holidays: Holidays { days: table },
+                place,
+            });
         }
-        left -= 1;
+        Some(Spot::new(day, Holidays::judged(table)?))
     }
-    DayAnswer::Day(Day(at))
-}
 
-// Inner: whether a day is a business day; asks for a day and its place among ascending holidays.
-pub fn business_at(n: u32, table: &[u32], i: usize) -> bool
-    requires { (JudgedDay n table.now) × (IsLowerBound table.now n i) }
-    ensures { result ≡ is_business table.now n }
-{
-    // The holidays may be any number, so that a caller who asks often judges them once.
-    if is_weekend(n) {
-        return false;
+    // Inner: a day's spot; asks for a day that exists.
+    pub fn new(day: u32, holidays: Holidays<'a>) -> Spot<'a>
+        requires { (1 ≤ day) × (day ≤ 3652059) }
+        ensures { (result.day ≡ day) × (result.holidays.days.now ≡ holidays.entry.days.now) }
+    {
+        let place = holidays.place_of(day);
+        Spot {
+            day,
+            holidays,
+            place,
+        }
     }
-    holiday_at(table, i) != n
-}
 
-// Inner: the day k business days on; asks for a day that exists and ascending holidays.
-pub fn later_from(n: u32, k: u32, table: &[u32]) -> DayAnswer
-    requires { JudgedDay n table.now }
-    ensures { day_outcome result ≡ later_from table.now k n }
-{
-    // One search, then the walk over the part of the table from there.
-    let i = crate::table::lower_bound(table, n + 1);
-    walk_on(&table[i..], n, k)
-}
+    // Inner: a day's spot, looked for from a place that may be near; asks for a day that exists.
+    #[inline(always)]
+    pub fn near(day: u32, holidays: Holidays<'a>, hint: usize) -> Spot<'a>
+        requires { (1 ≤ day) × (day ≤ 3652059) }
+        ensures { (result.day ≡ day) × (result.holidays.days.now ≡ holidays.entry.days.now) }
+    {
+        // A rollout's days come in order, so that it searches once and then passes its holidays.
+        let days = holidays.days;
+        if days.len() < hint || day <= holiday_before(days, hint) {
+            return Spot::new(day, holidays);
+        }
+        // `position` of an iterator is slower: six instructions for each holiday in place of five.
+        let mut place = hint;
+        while place < days.len() && days[place] < day {
+            place += 1;
+        }
+        Spot {
+            day,
+            holidays,
+            place,
+        }
+    }
 
-// Inner: the day k business days back; asks for a day that exists and ascending holidays.
-pub fn earlier_from(n: u32, k: u32, table: &[u32]) -> DayAnswer
-    requires { JudgedDay n table.now }
-    ensures { day_outcome result ≡ earlier_from table.now k n }
-{
-    // One search, then the walk over the part of the table up to there.
-    let i = crate::table::lower_bound(table, n);
-    walk_back(&table[..i], n, k)
-}
+    // Inner: whether it is a business day.
+    #[inline(always)]
+    pub fn is_business(self) -> bool
+        ensures { result ≡ is_business self.entry.holidays.days.now self.entry.day }
+    {
+        !is_weekend(self.day) && holiday_at(self.holidays.days, self.place) != self.day
+    }
 
-// The place of the first holiday after a day, from that of the first not before it.
-fn place_after(table: &[u32], n: u32, i: usize) -> usize
-    requires { (JudgedDay n table.now) × (IsLowerBound table.now n i) }
-    ensures { IsLowerBound table.now (n + 1) result }
-{
-    if holiday_at(table, i) == n { i + 1 } else { i }
-}
+    // Inner: the day k business days on.
+    #[inline(always)]
+    pub fn later(self, k: u32) -> Result<Day, Refusal>
+        ensures { outcome_of result ≡ later_from self.entry.holidays.days.now k self.entry.day }
+    {
+        // The walk begins after the day, and so behind a holiday that it is.
+        let table = self.holidays.days;
+        let listed = holiday_at(table, self.place) == self.day;
+        let after = if listed { self.place + 1 } else { self.place };
+        walk_on(&table[after..], self.day, k)
+    }
 
-// Inner: the next business day; asks for a day and its place among ascending holidays.
-pub fn next_at(n: u32, table: &[u32], i: usize) -> DayAnswer
-    requires { (JudgedDay n table.now) × (IsLowerBound table.now n i) }
-    ensures { day_outcome result ≡ next_from table.now n }
-{
-    let after = place_after(table, n, i);
-    walk_on(&table[after..], n, 1)
-}
+    // Inner: the day k business days back.
+    #[inline(always)]
+    pub fn earlier(self, k: u32) -> Result<Day, Refusal>
+        ensures { outcome_of result ≡ earlier_from self.entry.holidays.days.now k self.entry.day }
+    {
+        walk_back(&self.holidays.days[..self.place], self.day, k)
+    }
 
-// Inner: the previous business day; asks for a day and its place among ascending holidays.
-pub fn prev_at(n: u32, table: &[u32], i: usize) -> DayAnswer
-    requires { (JudgedDay n table.now) × (IsLowerBound table.now n i) }
-    ensures { day_outcome result ≡ prev_from table.now n }
-{
-    walk_back(&table[..i], n, 1)
+    // Inner: the next business day.
+    #[inline(always)]
+    pub fn next(self) -> Result<Day, Refusal>
+        ensures { outcome_of result ≡ next_from self.entry.holidays.days.now self.entry.day }
+    {
+        self.later(1)
+    }
+
+    // Inner: the previous business day.
+    #[inline(always)]
+    pub fn previous(self) -> Result<Day, Refusal>
+        ensures { outcome_of result ≡ prev_from self.entry.holidays.days.now self.entry.day }
+    {
+        self.earlier(1)
+    }
 }

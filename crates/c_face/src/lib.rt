@@ -4,6 +4,7 @@
 
 ghost use Rattle.std.specs.Prelude.{◌≡◌, true, length};
 ghost use Rattle.outcome.specs.Outcome.{given, and_then, passed_as};
+ghost use Rattle.outcome.specs.Refusals.{outcome_of};
 ghost use Rattle.calendar.specs.serial.Answers.{day_of, date_of, weekday_of, days_between};
 ghost use Rattle.time_period.specs.steps.Periods.{frequency_of};
 ghost use Rattle.time_period.specs.steps.Steps.{absent, table};
@@ -33,23 +34,36 @@ ghost use Rattle.c_values.specs.answers.Coded.{coded};
 ghost use Rattle.c_values.specs.arguments.Numbers.{serial_day, date, coupon, currency, flow, period_of_numbers, flat_rate, note_number, note_of};
 ghost use Rattle.c_face.specs.Rooms.{text_in, flow_rooms, listed_in};
 
-use bond::{Note, NoteAnswer};
 use calendar::{Date, Day};
 use cash_flow::{CashFlow, Currency};
 use coupon_date::CouponDate;
 use day_count_conv::DayCountConv;
-use packed_codes::{AdjustmentAnswer, ConventionAnswer};
+use outcome::Refusal;
 use rates::FlatRate;
-use time_period::{PeriodAnswer, TimePeriod};
 
-fn flat_rate(rate: f64, convention: DayCountConv, c1: u8, c2: u8, c3: u8) -> FlatRate
-    ensures { result ≡ flat_rate rate convention (currency c1 c2 c3) }
+fn currency_of(c1: u8, c2: u8, c3: u8) -> Currency
+    ensures { result ≡ currency c1 c2 c3 }
 {
-    let currency = Currency {
+    Currency {
         first: c1,
         second: c2,
         third: c3,
-    };
+    }
+}
+
+fn flow_of(date: Date, currency: Currency, amount: f64) -> CashFlow
+    ensures { result ≡ flow date currency amount }
+{
+    CashFlow {
+        date,
+        currency,
+        amount,
+    }
+}
+
+fn flat_rate(rate: f64, convention: DayCountConv, currency: Currency) -> FlatRate
+    ensures { result ≡ flat_rate rate convention currency }
+{
     FlatRate {
         rate,
         day_count_conv: convention,
@@ -63,7 +77,7 @@ pub extern "C" fn notes_day_of(year: u32, month: u32, day: u32, serial: &mut u32
     ensures { HandsOver (day_of (date year month day)) result (record { 0 = serial.old }) (record { 0 = serial.new }) }
 {
     let t = Date { year, month, day };
-    c_values::hand_day(calendar::day_of(t), serial)
+    c_values::hand_over(calendar::day_of(t).map(|d| d.0), serial)
 }
 
 // The date of a serial day; refused 1.
@@ -79,7 +93,7 @@ pub extern "C" fn notes_date_of(serial: u32, year: &mut u32, month: &mut u32, da
 pub extern "C" fn notes_weekday(serial: u32, weekday: &mut u32) -> u32
     ensures { HandsOver (weekday_of (serial_day serial)) result weekday.old weekday.new }
 {
-    c_values::hand_weekday(calendar::weekday(Day(serial)), weekday)
+    c_values::hand_over(calendar::weekday(Day(serial)), weekday)
 }
 
 // The day count from one serial day to another that is not before it; refused 1, 19.
@@ -87,7 +101,8 @@ pub extern "C" fn notes_weekday(serial: u32, weekday: &mut u32) -> u32
 pub extern "C" fn notes_days_between(from: u32, to: u32, days: &mut u32) -> u32
     ensures { HandsOver (days_between (serial_day from) (serial_day to)) result (record { 0 = days.old }) (record { 0 = days.new }) }
 {
-    c_values::hand_days(calendar::days_between(Day(from), Day(to)), days)
+    let answer = calendar::days_between(Day(from), Day(to));
+    c_values::hand_over(answer.map(|n| n.0), days)
 }
 
 // The number and the unit's code of a period's text; refused 2, 3, 4.
@@ -104,10 +119,8 @@ pub extern "C" fn notes_write_period(num: i32, unit: u32, out: &mut [u8], length
     ensures { HandsOver (and_then (period_of_numbers num unit) (λ p. text_in out.old (period_text p))) result (length.old, out.old) (length.new, out.new) }
 {
     match c_values::period_of(num, unit) {
-        PeriodAnswer::Period(p) => {
-            c_values::hand_length(term_text::write_period(p, out), length)
-        }
-        PeriodAnswer::Refused(n) => n,
+        Ok(p) => c_values::hand_over(term_text::write_period(p, out), length),
+        Err(e) => e.number(),
     }
 }
 
@@ -116,10 +129,8 @@ pub extern "C" fn notes_write_period(num: i32, unit: u32, out: &mut [u8], length
 pub extern "C" fn notes_frequency(num: i32, unit: u32, per_year: &mut u32) -> u32
     ensures { HandsOver (and_then (period_of_numbers num unit) frequency_of) result per_year.old per_year.new }
 {
-    match c_values::period_of(num, unit) {
-        PeriodAnswer::Period(p) => { c_values::hand_frequency(time_period::frequency(p), per_year) }
-        PeriodAnswer::Refused(n) => n,
-    }
+    let answer = c_values::period_of(num, unit).and_then(time_period::frequency);
+    c_values::hand_over(answer, per_year)
 }
 
 // The date a period on, without a holiday table; refused 18, 1, 12, then 1 for the result.
@@ -136,13 +147,9 @@ pub extern "C" fn notes_add_to(
 ) -> u32
     ensures { HandsOver (and_then (period_of_numbers num unit) (λ p. add_to p absent (date year month day))) result (date to_year.old to_month.old to_day.old) (date to_year.new to_month.new to_day.new) }
 {
-    match c_values::period_of(num, unit) {
-        PeriodAnswer::Period(p) => {
-            let t = Date { year, month, day };
-            c_values::hand_date(time_period::add_to(p, t), to_year, to_month, to_day)
-        }
-        PeriodAnswer::Refused(n) => n,
-    }
+    let t = Date { year, month, day };
+    let answer = c_values::period_of(num, unit).and_then(|p| time_period::add_to(p, t));
+    c_values::hand_date(answer, to_year, to_month, to_day)
 }
 
 // The date a period back, without a holiday table; refused 18, 1, 4, 12, then 1 for the result.
@@ -159,13 +166,9 @@ pub extern "C" fn notes_sub_from(
 ) -> u32
     ensures { HandsOver (and_then (period_of_numbers num unit) (λ p. sub_from p absent (date year month day))) result (date to_year.old to_month.old to_day.old) (date to_year.new to_month.new to_day.new) }
 {
-    match c_values::period_of(num, unit) {
-        PeriodAnswer::Period(p) => {
-            let t = Date { year, month, day };
-            c_values::hand_date(time_period::sub_from(p, t), to_year, to_month, to_day)
-        }
-        PeriodAnswer::Refused(n) => n,
-    }
+    let t = Date { year, month, day };
+    let answer = c_values::period_of(num, unit).and_then(|p| time_period::sub_from(p, t));
+    c_values::hand_date(answer, to_year, to_month, to_day)
 }
 
 // The date a period on, over a holiday table; refused 18, 1, 13, then 1 for the result.
@@ -183,14 +186,11 @@ pub extern "C" fn notes_add_to_with(
 ) -> u32
     ensures { HandsOver (and_then (period_of_numbers num unit) (λ p. add_to p (table holidays.now) (date year month day))) result (date to_year.old to_month.old to_day.old) (date to_year.new to_month.new to_day.new) }
 {
-    match c_values::period_of(num, unit) {
-        PeriodAnswer::Period(p) => {
-            let t = Date { year, month, day };
-            let answer = time_period::add_to_with(p, t, holidays);
-            c_values::hand_date(answer, to_year, to_month, to_day)
-        }
-        PeriodAnswer::Refused(n) => n,
-    }
+    let t = Date { year, month, day };
+    let answer = c_values::period_of(num, unit).and_then(|p| time_period::add_to_with(
+        p, t, holidays,
+    ));
+    c_values::hand_date(answer, to_year, to_month, to_day)
 }
 
 // The date a period back, over a holiday table; refused 18, 1, 4, 13, then 1 for the result.
@@ -208,14 +208,11 @@ pub extern "C" fn notes_sub_from_with(
 ) -> u32
     ensures { HandsOver (and_then (period_of_numbers num unit) (λ p. sub_from p (table holidays.now) (date year month day))) result (date to_year.old to_month.old to_day.old) (date to_year.new to_month.new to_day.new) }
 {
-    match c_values::period_of(num, unit) {
-        PeriodAnswer::Period(p) => {
-            let t = Date { year, month, day };
-            let answer = time_period::sub_from_with(p, t, holidays);
-            c_values::hand_date(answer, to_year, to_month, to_day)
-        }
-        PeriodAnswer::Refused(n) => n,
-    }
+    let t = Date { year, month, day };
+    let answer = c_values::period_of(num, unit).and_then(|p| time_period::sub_from_with(
+        p, t, holidays,
+    ));
+    c_values::hand_date(answer, to_year, to_month, to_day)
 }
 
 // The check of a day and a month as a coupon date, 0 where they are one; refused 7, 8.
@@ -223,7 +220,7 @@ pub extern "C" fn notes_sub_from_with(
 pub extern "C" fn notes_new_coupon_date(day: u32, month: u32) -> u32
     ensures { ReturnsNumber (coupon_date_of day month) result }
 {
-    c_values::hand_coupon_check(coupon_date::new_coupon_date(day, month))
+    c_values::hand_check(coupon_date::new_coupon_date(day, month))
 }
 
 // The day and the month of a text dd.mm; refused 6, 7, 8.
@@ -245,7 +242,7 @@ pub extern "C" fn notes_write_coupon_date(
     ensures { HandsOver (text_in out.old (coupon_date_text (coupon day month))) result (length.old, out.old) (length.new, out.new) }
 {
     let c = CouponDate { day, month };
-    c_values::hand_length(term_text::write_coupon_date(c, out), length)
+    c_values::hand_over(term_text::write_coupon_date(c, out), length)
 }
 
 // Whether a serial day is a business day, 1 for yes and 0 for no; refused 1, 13.
@@ -253,7 +250,8 @@ pub extern "C" fn notes_write_coupon_date(
 pub extern "C" fn notes_is_business_day(serial: u32, holidays: &[u32], yes: &mut u32) -> u32
     ensures { HandsOver (passed_as yes_no (is_business_day (serial_day serial) holidays.now)) result yes.old yes.new }
 {
-    c_values::hand_business(business_days::is_business_day(Day(serial), holidays), yes)
+    let answer = business_days::is_business_day(Day(serial), holidays);
+    c_values::hand_over(answer.map(c_values::yes_no), yes)
 }
 
 // The serial day k business days on, the day itself for 0; refused 1, 13, then 1 for the result.
@@ -261,7 +259,8 @@ pub extern "C" fn notes_is_business_day(serial: u32, holidays: &[u32], yes: &mut
 pub extern "C" fn notes_bdays_later(serial: u32, k: u32, holidays: &[u32], found: &mut u32) -> u32
     ensures { HandsOver (bdays_later (serial_day serial) k holidays.now) result (record { 0 = found.old }) (record { 0 = found.new }) }
 {
-    c_values::hand_day(business_days::bdays_later(Day(serial), k, holidays), found)
+    let answer = business_days::bdays_later(Day(serial), k, holidays);
+    c_values::hand_over(answer.map(|d| d.0), found)
 }
 
 // The serial day k business days back, the day itself for 0; refused 1, 13, then 1 for the result.
@@ -269,10 +268,8 @@ pub extern "C" fn notes_bdays_later(serial: u32, k: u32, holidays: &[u32], found
 pub extern "C" fn notes_bdays_earlier(serial: u32, k: u32, holidays: &[u32], found: &mut u32) -> u32
     ensures { HandsOver (bdays_earlier (serial_day serial) k holidays.now) result (record { 0 = found.old }) (record { 0 = found.new }) }
 {
-    c_values::hand_day(
-        business_days::bdays_earlier(Day(serial), k, holidays),
-        found,
-    )
+    let answer = business_days::bdays_earlier(Day(serial), k, holidays);
+    c_values::hand_over(answer.map(|d| d.0), found)
 }
 
 // The date that a date is adjusted to by one of four rules; refused 18, 1, 13, then 1 for the
@@ -290,14 +287,11 @@ pub extern "C" fn notes_adjust_date(
 ) -> u32
     ensures { HandsOver (and_then (adjustment_of_code adjustment) (λ a. adjust_date a (date year month day) holidays.now)) result (date to_year.old to_month.old to_day.old) (date to_year.new to_month.new to_day.new) }
 {
-    match packed_codes::adjustment_of_code(adjustment) {
-        AdjustmentAnswer::Adjustment(a) => {
-            let t = Date { year, month, day };
-            let answer = day_adjust::adjust_date(a, t, holidays);
-            c_values::hand_date(answer, to_year, to_month, to_day)
-        }
-        AdjustmentAnswer::Refused(n) => n,
-    }
+    let t = Date { year, month, day };
+    let answer = packed_codes::adjustment_of_code(adjustment).and_then(|a| day_adjust::adjust_date(
+        a, t, holidays,
+    ));
+    c_values::hand_date(answer, to_year, to_month, to_day)
 }
 
 // The year fraction from start to end, with no roll date and no period; refused 18, 1, 19, 10, 9.
@@ -314,23 +308,20 @@ pub extern "C" fn notes_year_fraction(
 ) -> u32
     ensures { HandsOver (and_then (convention_of_code convention) (λ c. year_fraction fractions_in_f64 c (date start_year start_month start_day) (date end_year end_month end_day) no_terms)) result fraction.old fraction.new }
 {
-    match packed_codes::convention_of_code(convention) {
-        ConventionAnswer::Convention(c) => {
-            let start = Date {
-                year: start_year,
-                month: start_month,
-                day: start_day,
-            };
-            let end = Date {
-                year: end_year,
-                month: end_month,
-                day: end_day,
-            };
-            let answer = day_count_conv::fraction_between(c, start, end);
-            c_values::hand_fraction(answer, fraction)
-        }
-        ConventionAnswer::Refused(n) => n,
-    }
+    let start = Date {
+        year: start_year,
+        month: start_month,
+        day: start_day,
+    };
+    let end = Date {
+        year: end_year,
+        month: end_month,
+        day: end_day,
+    };
+    let answer = packed_codes::convention_of_code(convention).and_then(
+        |c| day_count_conv::fraction_between(c, start, end),
+    );
+    c_values::hand_over(answer, fraction)
 }
 
 // The year fraction from start to end, with a roll date and a period; refused 18, 1, 19, 5, 14,
@@ -353,36 +344,41 @@ pub extern "C" fn notes_year_fraction_rolled(
 ) -> u32
     ensures { HandsOver (and_then (convention_of_code convention) (λ c. and_then (period_of_numbers num unit) (λ p. year_fraction fractions_in_f64 c (date start_year start_month start_day) (date end_year end_month end_day) (rolled_from (date roll_year roll_month roll_day) p)))) result fraction.old fraction.new }
 {
-    match packed_codes::convention_of_code(convention) {
-        ConventionAnswer::Convention(c) => match c_values::period_of(num, unit) {
-            PeriodAnswer::Period(p) => {
-                let start = Date {
-                    year: start_year,
-                    month: start_month,
-                    day: start_day,
-                };
-                let end = Date {
-                    year: end_year,
-                    month: end_month,
-                    day: end_day,
-                };
-                let roll = Date {
-                    year: roll_year,
-                    month: roll_month,
-                    day: roll_day,
-                };
-                let answer = day_count_conv::year_fraction(
-                    c,
-                    start,
-                    end,
-                    day_count_conv::rolled_from(roll, p),
-                );
-                c_values::hand_fraction(answer, fraction)
-            }
-            PeriodAnswer::Refused(n) => n,
-        },
-        ConventionAnswer::Refused(n) => n,
-    }
+    let start = Date {
+        year: start_year,
+        month: start_month,
+        day: start_day,
+    };
+    let end = Date {
+        year: end_year,
+        month: end_month,
+        day: end_day,
+    };
+    let roll = Date {
+        year: roll_year,
+        month: roll_month,
+        day: roll_day,
+    };
+    c_values::hand_over(
+        rolled_fraction(convention, start, end, roll, num, unit),
+        fraction,
+    )
+}
+
+fn rolled_fraction(
+    convention: u32,
+    start: Date,
+    end: Date,
+    roll: Date,
+    num: i32,
+    unit: u32,
+) -> Result<f64, Refusal>
+    ensures { outcome_of result ≡ and_then (convention_of_code convention) (λ c. and_then (period_of_numbers num unit) (λ p. year_fraction fractions_in_f64 c start end (rolled_from roll p))) }
+{
+    let rule = packed_codes::convention_of_code(convention)?;
+    let period = c_values::period_of(num, unit)?;
+    let terms = day_count_conv::rolled_from(roll, period);
+    day_count_conv::year_fraction(rule, start, end, terms)
 }
 
 // An amount rounded to 0 to 4 digits, halves away from zero, a zero with its sign; refused 15.
@@ -390,7 +386,7 @@ pub extern "C" fn notes_year_fraction_rolled(
 pub extern "C" fn notes_round2digits(amount: f64, digits: i32, rounded: &mut f64) -> u32
     ensures { HandsOver (round2digits_of amount digits) result rounded.old rounded.new }
 {
-    c_values::hand_amount(cash_flow::round2digits(amount, digits), rounded)
+    c_values::hand_over(cash_flow::round2digits(amount, digits), rounded)
 }
 
 // An amount with four decimals, in at least 16 columns in front of the lent bytes; refused 15, 16.
@@ -398,7 +394,7 @@ pub extern "C" fn notes_round2digits(amount: f64, digits: i32, rounded: &mut f64
 pub extern "C" fn notes_write_decimal(amount: f64, out: &mut [u8], length: &mut usize) -> u32
     ensures { HandsOver (and_then (decimal_shown amount) (text_in out.old)) result (length.old, out.old) (length.new, out.new) }
 {
-    c_values::hand_length(decimal::write_decimal(amount, out), length)
+    c_values::hand_over(decimal::write_decimal(amount, out), length)
 }
 
 // A flow's date, amount and currency, in front of the lent bytes; refused 15, 17, 1, 16.
@@ -417,17 +413,8 @@ pub extern "C" fn notes_write_cash_flow(
     ensures { HandsOver (and_then (flow_shown (flow (date year month day) (currency c1 c2 c3) amount)) (text_in out.old)) result (length.old, out.old) (length.new, out.new) }
 {
     let date = Date { year, month, day };
-    let currency = Currency {
-        first: c1,
-        second: c2,
-        third: c3,
-    };
-    let flow = CashFlow {
-        date,
-        currency,
-        amount,
-    };
-    c_values::hand_length(flow_text::write_cash_flow(flow, out), length)
+    let flow = flow_of(date, currency_of(c1, c2, c3), amount);
+    c_values::hand_over(flow_text::write_cash_flow(flow, out), length)
 }
 
 // Whether two flows are equal within a tolerance, 1 for yes and 0 for no, never refused.
@@ -457,32 +444,15 @@ pub extern "C" fn notes_fuzzy_cash_flows_cmp_eq(
         month: a_month,
         day: a_day,
     };
-    let currency_a = Currency {
-        first: a_c1,
-        second: a_c2,
-        third: a_c3,
-    };
-    let a = CashFlow {
-        date: date_a,
-        currency: currency_a,
-        amount: a_amount,
-    };
+    let a = flow_of(date_a, currency_of(a_c1, a_c2, a_c3), a_amount);
     let date_b = Date {
         year: b_year,
         month: b_month,
         day: b_day,
     };
-    let currency_b = Currency {
-        first: b_c1,
-        second: b_c2,
-        third: b_c3,
-    };
-    let b = CashFlow {
-        date: date_b,
-        currency: currency_b,
-        amount: b_amount,
-    };
-    c_values::hand_yes_no(cash_flow::fuzzy_cash_flows_cmp_eq(a, b, tolerance), equal)
+    let b = flow_of(date_b, currency_of(b_c1, b_c2, b_c3), b_amount);
+    let is_equal = cash_flow::fuzzy_cash_flows_cmp_eq(a, b, tolerance);
+    c_values::hand_over(Ok(c_values::yes_no(is_equal)), equal)
 }
 
 // The checks of a note without position and table, 0 where it passes; refused 18 for a code, then
@@ -511,7 +481,7 @@ pub extern "C" fn notes_check_note(
 ) -> u32
     ensures { ReturnsNumber (and_then (note_of (note_number number_count number_digits) (date issue_year issue_month issue_day) (date maturity_year maturity_month maturity_day) (coupon coupon_day coupon_month) period_num period_unit convention adjustment denomination rate (currency c1 c2 c3)) (note_checks true true)) result }
 {
-    match c_values::note_of(
+    let note = c_values::note_of(
         number_count,
         number_digits,
         issue_year,
@@ -531,10 +501,8 @@ pub extern "C" fn notes_check_note(
         c1,
         c2,
         c3,
-    ) {
-        NoteAnswer::Note(note) => c_values::hand_note_check(bond::check_note(note)),
-        NoteAnswer::Refused(n) => n,
-    }
+    );
+    c_values::hand_check(note.and_then(bond::check_note))
 }
 
 // A note's flows as serial days and amounts in two lent lists, and their count; refused 18 for a
@@ -568,7 +536,7 @@ pub extern "C" fn notes_rollout_flows(
 ) -> u32
     ensures { HandsOver (and_then (note_of (note_number number_count number_digits) (date issue_year issue_month issue_day) (date maturity_year maturity_month maturity_day) (coupon coupon_day coupon_month) period_num period_unit convention adjustment denomination rate (currency c1 c2 c3)) (λ note. passed_as (flow_rooms days.old amounts.old) (fitted note position holidays.now days.old amounts.old))) result (count.old, days.old, amounts.old) (count.new, days.new, amounts.new) }
 {
-    match c_values::note_of(
+    let note = c_values::note_of(
         number_count,
         number_digits,
         issue_year,
@@ -588,12 +556,13 @@ pub extern "C" fn notes_rollout_flows(
         c1,
         c2,
         c3,
-    ) {
-        NoteAnswer::Note(note) => {
-            let answer = rollout::rollout_flows(note, position, holidays, days, amounts);
-            c_values::hand_flows(answer, count)
+    );
+    match note {
+        Ok(n) => {
+            let answer = rollout::rollout_flows(n, position, holidays, days, amounts);
+            c_values::hand_over(answer, count)
         }
-        NoteAnswer::Refused(n) => n,
+        Err(e) => e.number(),
     }
 }
 
@@ -627,7 +596,7 @@ pub extern "C" fn notes_accrued_interest(
 ) -> u32
     ensures { HandsOver (and_then (note_of (note_number number_count number_digits) (date issue_year issue_month issue_day) (date maturity_year maturity_month maturity_day) (coupon coupon_day coupon_month) period_num period_unit convention adjustment denomination rate (currency c1 c2 c3)) (λ note. accrued amounts_in_f64 note (date year month day))) result amount.old amount.new }
 {
-    match c_values::note_of(
+    let note = c_values::note_of(
         number_count,
         number_digits,
         issue_year,
@@ -647,13 +616,10 @@ pub extern "C" fn notes_accrued_interest(
         c1,
         c2,
         c3,
-    ) {
-        NoteAnswer::Note(note) => {
-            let today = Date { year, month, day };
-            c_values::hand_fraction(accrued_interest::accrued_interest(note, today), amount)
-        }
-        NoteAnswer::Refused(n) => n,
-    }
+    );
+    let today = Date { year, month, day };
+    let answer = note.and_then(|n| accrued_interest::accrued_interest(n, today));
+    c_values::hand_over(answer, amount)
 }
 
 // A note and its holiday table as a packed record, in front of the lent bytes; refused 18 for a
@@ -685,7 +651,7 @@ pub extern "C" fn notes_write_note(
 ) -> u32
     ensures { HandsOver (and_then (note_of (note_number number_count number_digits) (date issue_year issue_month issue_day) (date maturity_year maturity_month maturity_day) (coupon coupon_day coupon_month) period_num period_unit convention adjustment denomination rate (currency c1 c2 c3)) (λ note. and_then (packed_note note holidays.now) (text_in out.old))) result (length.old, out.old) (length.new, out.new) }
 {
-    match c_values::note_of(
+    let note = c_values::note_of(
         number_count,
         number_digits,
         issue_year,
@@ -705,11 +671,10 @@ pub extern "C" fn notes_write_note(
         c1,
         c2,
         c3,
-    ) {
-        NoteAnswer::Note(note) => {
-            c_values::hand_length(packed_write::write_note(note, holidays, out), length)
-        }
-        NoteAnswer::Refused(n) => n,
+    );
+    match note {
+        Ok(n) => c_values::hand_over(packed_write::write_note(n, holidays, out), length),
+        Err(e) => e.number(),
     }
 }
 
@@ -718,7 +683,7 @@ pub extern "C" fn notes_write_note(
 pub extern "C" fn notes_list_note(record: &[u8], out: &mut [u8], length: &mut usize) -> u32
     ensures { HandsOver (text_in out.old (listing «record».now)) result (length.old, out.old) (length.new, out.new) }
 {
-    c_values::hand_length(note_listing::list_note(record, out), length)
+    c_values::hand_over(note_listing::list_note(record, out), length)
 }
 
 // The flows of three lists strictly later than a serial day, in order, in three lent lists, and
@@ -746,7 +711,7 @@ pub extern "C" fn notes_flows_after(
         out_currencies,
         out_amounts,
     );
-    c_values::hand_flows(answer, count)
+    c_values::hand_over(answer, count)
 }
 
 // The factor that discounts a payment to today; refused 18, 15, then by the fraction.
@@ -767,23 +732,23 @@ pub extern "C" fn notes_discount_factor(
 ) -> u32
     ensures { HandsOver (and_then (convention_of_code convention) (λ c. discount_factor (flat_rate rate c (currency c1 c2 c3)) (date today_year today_month today_day) (date pay_year pay_month pay_day))) result factor.old factor.new }
 {
-    match packed_codes::convention_of_code(convention) {
-        ConventionAnswer::Convention(c) => {
-            let x = flat_rate(rate, c, c1, c2, c3);
-            let today = Date {
-                year: today_year,
-                month: today_month,
-                day: today_day,
-            };
-            let pay = Date {
-                year: pay_year,
-                month: pay_month,
-                day: pay_day,
-            };
-            c_values::hand_factor(rates::discount_factor(x, today, pay), factor)
-        }
-        ConventionAnswer::Refused(n) => n,
-    }
+    let currency = currency_of(c1, c2, c3);
+    let today = Date {
+        year: today_year,
+        month: today_month,
+        day: today_day,
+    };
+    let pay = Date {
+        year: pay_year,
+        month: pay_month,
+        day: pay_day,
+    };
+    let answer = packed_codes::convention_of_code(convention).and_then(|c| rates::discount_factor(
+        flat_rate(rate, c, currency),
+        today,
+        pay,
+    ));
+    c_values::hand_over(answer, factor)
 }
 
 // What a stream of three lists is worth today, summed from 0 in order; refused 18, 15 for the rate,
@@ -805,18 +770,16 @@ pub extern "C" fn notes_discount_flows(
 ) -> u32
     ensures { HandsOver (and_then (convention_of_code convention) (λ c. discounted_stream (flat_rate rate c (currency c1 c2 c3)) (date today_year today_month today_day) (flows_of days.now currencies.now amounts.now))) result amount.old amount.new }
 {
+    let currency = currency_of(c1, c2, c3);
+    let today = Date {
+        year: today_year,
+        month: today_month,
+        day: today_day,
+    };
     // The lists are serial days, currencies as numbers, and amounts.
-    match packed_codes::convention_of_code(convention) {
-        ConventionAnswer::Convention(c) => {
-            let x = flat_rate(rate, c, c1, c2, c3);
-            let today = Date {
-                year: today_year,
-                month: today_month,
-                day: today_day,
-            };
-            let answer = rates::discount_plain_flows(x, days, currencies, amounts, today);
-            c_values::hand_amount(answer, amount)
-        }
-        ConventionAnswer::Refused(n) => n,
-    }
+    let answer = packed_codes::convention_of_code(convention).and_then(|c| {
+        let rate = flat_rate(rate, c, currency);
+        rates::discount_plain_flows(rate, days, currencies, amounts, today)
+    });
+    c_values::hand_over(answer, amount)
 }

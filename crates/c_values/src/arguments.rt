@@ -1,27 +1,26 @@
 // What the numbers that come from C stand for: periods and notes, by their codes.
 ghost use Rattle.std.specs.Prelude.{◌≡◌};
-ghost use Rattle.time_period.specs.steps.Periods.{period_outcome};
-ghost use Rattle.bond.specs.note.Notes.{note_outcome};
+ghost use Rattle.outcome.specs.Refusals.{outcome_of};
 ghost use Rattle.c_values.specs.arguments.Numbers.{date, coupon, currency, period_of_numbers, note_number, note_of};
 
-use bond::{Note, NoteAnswer, NoteNumber};
+use bond::{Note, NoteNumber};
 use calendar::Date;
 use cash_flow::Currency;
 use coupon_date::CouponDate;
-use packed_codes::{AdjustmentAnswer, ConventionAnswer};
-use time_period::{PeriodAnswer, TimePeriod, UnitAnswer};
+use outcome::Refusal;
+use time_period::TimePeriod;
 
 // Inner: the period of C's number and unit code; refused 18.
-pub fn period_of(num: i32, unit: u32) -> PeriodAnswer
-    ensures { period_outcome result ≡ period_of_numbers num unit }
+#[tactic(auto, using(outcome::proofs::Refusals::handed_on), unfolding(crate::specs::arguments::Numbers::period_of_numbers))]
+pub fn period_of(num: i32, unit: u32) -> Result<TimePeriod, Refusal>
+    ensures { outcome_of result ≡ period_of_numbers num unit }
 {
-    match packed_codes::unit_of_code(unit) {
-        UnitAnswer::Unit(u) => PeriodAnswer::Period(TimePeriod { num, unit: u }),
-        UnitAnswer::Refused(n) => PeriodAnswer::Refused(n),
-    }
+    let unit = packed_codes::unit_of_code(unit)?;
+    Ok(TimePeriod { num, unit })
 }
 
 // Inner: the note of C's numbers, its codes looked up in the order of the arguments; refused 18.
+#[tactic(auto, using(outcome::proofs::Refusals::handed_on), unfolding(crate::specs::arguments::Numbers::note_of))]
 pub fn note_of(
     number_count: u32,
     number_digits: u64,
@@ -42,8 +41,8 @@ pub fn note_of(
     c1: u8,
     c2: u8,
     c3: u8,
-) -> NoteAnswer
-    ensures { note_outcome result ≡ note_of (note_number number_count number_digits) (date issue_year issue_month issue_day) (date maturity_year maturity_month maturity_day) (coupon coupon_day coupon_month) period_num period_unit rule adjustment denomination rate (currency c1 c2 c3) }
+) -> Result<Note, Refusal>
+    ensures { outcome_of result ≡ note_of (note_number number_count number_digits) (date issue_year issue_month issue_day) (date maturity_year maturity_month maturity_day) (coupon coupon_day coupon_month) period_num period_unit rule adjustment denomination rate (currency c1 c2 c3) }
 {
     let number = NoteNumber {
         count: number_count,
@@ -68,25 +67,19 @@ pub fn note_of(
         second: c2,
         third: c3,
     };
-    match period_of(period_num, period_unit) {
-        PeriodAnswer::Period(period) => match packed_codes::convention_of_code(rule) {
-            ConventionAnswer::Convention(c) => match packed_codes::adjustment_of_code(adjustment) {
-                AdjustmentAnswer::Adjustment(a) => NoteAnswer::Note(Note {
-                    number,
-                    issue_date,
-                    maturity,
-                    coupon_date,
-                    period,
-                    day_count_convention: c,
-                    business_day_rule: a,
-                    denomination,
-                    rate,
-                    currency,
-                }),
-                AdjustmentAnswer::Refused(n) => NoteAnswer::Refused(n),
-            },
-            ConventionAnswer::Refused(n) => NoteAnswer::Refused(n),
-        },
-        PeriodAnswer::Refused(n) => NoteAnswer::Refused(n),
-    }
+    let period = period_of(period_num, period_unit)?;
+    let day_count_convention = packed_codes::convention_of_code(rule)?;
+    let business_day_rule = packed_codes::adjustment_of_code(adjustment)?;
+    Ok(Note {
+        number,
+        issue_date,
+        maturity,
+        coupon_date,
+        period,
+        day_count_convention,
+        business_day_rule,
+        denomination,
+        rate,
+        currency,
+    })
 }

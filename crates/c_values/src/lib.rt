@@ -5,9 +5,5 @@ pub mod answers;
 pub mod arguments;
 
 // Inner: for the crates of the register, which have judged what these ask for.
-pub use answers::{
-    hand_amount, hand_business, hand_coupon, hand_coupon_check, hand_date, hand_day, hand_days,
-    hand_factor, hand_flows, hand_fraction, hand_frequency, hand_length, hand_note_check,
-    hand_period, hand_weekday, hand_yes_no,
-};
+pub use answers::{hand_check, hand_coupon, hand_date, hand_over, hand_period, yes_no};
 pub use arguments::{note_of, period_of};

@@ -4,3 +4,4 @@ pub mod Inverse
 pub mod Examples
 pub mod OneOutcome
 pub mod Weekdays
+pub mod Compared

@@ -30,8 +30,11 @@ pub fn day_of_date(t: Date) -> u32
     ensures { result ≡ day_number t }
 {
     // From March to the new year there are 306 days.
-    let year = if t.month < 3 { t.year - 1 } else { t.year };
-    let month = if t.month < 3 { t.month + 12 } else { t.month };
+    let (year, month) = if t.month < 3 {
+        (t.year - 1, t.month + 12)
+    } else {
+        (t.year, t.month)
+    };
     from_march(year, month) + t.day - 306
 }
 

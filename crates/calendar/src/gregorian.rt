@@ -57,10 +57,12 @@ pub fn length_of_month(year: u32, month: u32) -> u32
     ensures { MonthLengthPromise year month result }
 {
     match month {
+        // In two arms: the proof of one of seven numbers did not close.
         1 | 3 | 5 | 7 => 31,
         8 | 10 | 12 => 31,
         4 | 6 | 9 | 11 => 30,
-        2 => { if is_leap(year) { 29 } else { 28 } }
+        2 if is_leap(year) => 29,
+        2 => 28,
         _ => 0,
     }
 }

@@ -4,4 +4,3 @@ pub mod Whole
 pub mod Fields
 pub mod Limits
 pub mod Meaning
-pub mod Answers

@@ -5,8 +5,8 @@ pub mod currency;
 pub mod flow;
 pub mod round;
 
-pub use currency::{AmountAnswer, Currency, is_currency, is_same_currency, is_up_to_billion};
-pub use flow::{CashFlow, FlowsAnswer, aggregatable, fuzzy_cash_flows_cmp_eq};
+pub use currency::{Currency, is_currency, is_same_currency, is_up_to_billion};
+pub use flow::{CashFlow, aggregatable, fuzzy_cash_flows_cmp_eq};
 pub use round::round2digits;
 
 // Inner: for the crates of the register, which have judged what these ask for.

@@ -3,36 +3,28 @@
 
 ghost use Rattle.coupon_date.specs.Coupons.{NewPromise};
 
-#[derive(Clone, Copy)]
+use calendar::length_of_month;
+use outcome::Refusal;
+
+#[derive(Clone, Copy, Debug, PartialEq, Eq)]
 pub struct CouponDate {
     pub day: u32,
     pub month: u32,
-}
-
-#[derive(Clone, Copy)]
-pub enum CouponAnswer {
-    Coupon(CouponDate),
-    Refused(u32),
 }
 
 // Any year that is not a leap year will do: 29.02 is no coupon date.
 const COMMON_YEAR: u32 = 2019;
 
 // The coupon date of a day and a month; refused 7, 8.
-pub fn new_coupon_date(day: u32, month: u32) -> CouponAnswer
+#[tactic(auto, unfolding(crate::specs::Coupons::coupon_date_of))]
+pub fn new_coupon_date(day: u32, month: u32) -> Result<CouponDate, Refusal>
     ensures { NewPromise day month result }
 {
-    if day == 0 {
-        return CouponAnswer::Refused(outcome::DAY_OUT_OF_RANGE);
+    if day == 0 || month == 0 || 12 < month {
+        return Err(Refusal::DayOutOfRange);
     }
-    if month == 0 {
-        return CouponAnswer::Refused(outcome::DAY_OUT_OF_RANGE);
+    if length_of_month(COMMON_YEAR, month) < day {
+        return Err(Refusal::DayTooBig);
     }
-    if 12 < month {
-        return CouponAnswer::Refused(outcome::DAY_OUT_OF_RANGE);
-    }
-    if calendar::length_of_month(COMMON_YEAR, month) < day {
-        return CouponAnswer::Refused(outcome::DAY_TOO_BIG);
-    }
-    CouponAnswer::Coupon(CouponDate { day, month })
+    Ok(CouponDate { day, month })
 }

@@ -79,3 +79,11 @@ module _ (a : ℕ) (n : ℤ) (small : a < 2 ^ 63) (fits : SFits w64 n) where
 
   pub summed_read : SFits w64 (pos a +ℤ n) → to_z w64 (of_z w64 (to_z w64 a +ℤ to_z w64 (of_z w64 n))) ≡ pos a +ℤ n
   summed_read f = to_z-of_z (summed_fits f) ∙ summed_is
+
+-- and for a short move from a number of the calendar
+module _ (a : ℕ) (n : ℤ) (h : a ≤ 3652059) (m : mag n < 17179869184) (f : SFits w64 n) where
+  pub sum_short : SFits w64 (to_z w64 a +ℤ to_z w64 (of_z w64 n))
+  sum_short = summed_fits a n (omega arith) f (sum_fits a n h m)
+
+  pub sum_read : to_z w64 (of_z w64 (to_z w64 a +ℤ to_z w64 (of_z w64 n))) ≡ pos a +ℤ n
+  sum_read = summed_read a n (omega arith) f (sum_fits a n h m)

@@ -1,26 +1,28 @@
 -- No second answer satisfies a step's promise; and a refusal's number is never 0.
+use Rattle.std.specs.Prelude.{Result}
 use Prim.Native.Nat.{ℕ}
 use mathlib.Core.Path.{◌≡◌, sym, ◌∙◌}
 use native.Mathlib.Omega.{arith}
 use lib.IntN.{ℤ, pos, negsuc, ◌+ℤ◌}
 use lib.Dec.{leb}
 use Rattle.outcome.specs.Outcome.{given, Numbered}
+use Rattle.outcome.specs.declared.Refusal.{Refusal}
 use Rattle.outcome.proofs.Outcomes.{unless_numbered, then_numbered}
+use Rattle.outcome.proofs.Refusals.{same_result}
 use Rattle.calendar.specs.dates.Dates.{is_date, day_number, month_index, month_date}
 use Rattle.calendar.specs.serial.Answers.{date_of}
 use Rattle.calendar.specs.declared.dates.Date.{Date}
-use Rattle.calendar.specs.declared.serial.DateAnswer.{DateAnswer}
-use Rattle.calendar.proofs.dates.OneOutcome.{same_date_answer, date_of_numbered}
+use Rattle.calendar.proofs.dates.OneOutcome.{date_of_numbered}
 use Rattle.date_step.specs.Steps.{from_zero_to, months_later, add_months, existing_date, years_later, add_years, days_later, add_days, AddMonthsPromise, AddYearsPromise, AddDaysPromise}
 
-pub one-add_months : (t : Date) (n : ℤ) (r s : DateAnswer) → AddMonthsPromise t n r → AddMonthsPromise t n s → r ≡ s
-one-add_months t n r s p q = same_date_answer r s (p ∙ sym q)
+pub one-add_months : (t : Date) (n : ℤ) (r s : Result Date Refusal) → AddMonthsPromise t n r → AddMonthsPromise t n s → r ≡ s
+one-add_months t n r s p q = same_result r s (p ∙ sym q)
 
-pub one-add_years : (t : Date) (n : ℤ) (r s : DateAnswer) → AddYearsPromise t n r → AddYearsPromise t n s → r ≡ s
-one-add_years t n r s p q = same_date_answer r s (p ∙ sym q)
+pub one-add_years : (t : Date) (n : ℤ) (r s : Result Date Refusal) → AddYearsPromise t n r → AddYearsPromise t n s → r ≡ s
+one-add_years t n r s p q = same_result r s (p ∙ sym q)
 
-pub one-add_days : (t : Date) (n : ℤ) (r s : DateAnswer) → AddDaysPromise t n r → AddDaysPromise t n s → r ≡ s
-one-add_days t n r s p q = same_date_answer r s (p ∙ sym q)
+pub one-add_days : (t : Date) (n : ℤ) (r s : Result Date Refusal) → AddDaysPromise t n r → AddDaysPromise t n s → r ≡ s
+one-add_days t n r s p q = same_result r s (p ∙ sym q)
 
 -- every refusal has its number
 landing_numbered : (last : ℕ) (z : ℤ) → Numbered (from_zero_to last z)

@@ -1,13 +1,13 @@
 -- What a step of months, years or days leads to.
 use Prim.Native.Nat.{ℕ, zero, suc, ◌-◌, ◌≤◌, ◌<◌, min}
 use mathlib.Core.Path.{◌≡◌, refl, sym, ◌∙◌, ap, subst}
-use mathlib.Core.Bool.{true}
+use mathlib.Core.Bool.{Bool, true, false}
 use native.Mathlib.Omega.{arith}
 use native.Mathlib.Decide.{dec_lt}
 use lib.Dec.{leb}
 use lib.IntN.{ℤ, pos, negsuc, suc_ℤ, ◌+ℤ◌, suc_ℤ-+ℤ}
 use borrow.Author.Tests.{le-leb, lt-leb, leb-true}
-use Rattle.outcome.specs.Outcome.{given, unless, both, and_then}
+use Rattle.outcome.specs.Outcome.{Outcome, given, unless, both, and_then}
 use Rattle.outcome.proofs.Outcomes.{given_injective, given_not_refused, unless-given, then_given}
 use Rattle.calendar.specs.gregorian.Gregorian.{month_length}
 use Rattle.calendar.specs.dates.Dates.{is_date, is_day, day_number, the_date, month_index, month_date}
@@ -31,6 +31,21 @@ landed last (negsuc k) i e = absurd (given_not_refused (sym e))
 pub lands_at : (last i : ℕ) → i ≤ last → from_zero_to last (pos i) ≡ given i
 unfolding from_zero_to
 lands_at last i h = rw (le-leb i last h)
+
+-- a date that is given where it exists, and what follows on it
+pub existing_gives : (t u : Date) → given u ≡ existing_date t → is_date u ≡ true
+unfolding existing_date
+existing_gives t u e =
+    let g = unless-given (is_date t) 1 (given t) u (sym e) in
+    subst (λ (x : Date). is_date x ≡ true) (given_injective g.1) g.0
+
+pub existing_then : (t : Date) (next : Date → Outcome Date) → and_then (existing_date t) next ≡ unless (is_date t) 1 (next t)
+unfolding existing_date
+existing_then t next = by (is_date t)
+  where
+    by : (b : Bool) → and_then (unless b 1 (given t)) next ≡ unless b 1 (next t)
+    by true = refl
+    by false = refl
 
 -- n months on: the month's number moves by n, and the day is cut to the month's last
 pub record MonthsOn (t : Date) (n : ℤ) (u : Date) : Type 0 where

@@ -1,16 +1,11 @@
 -- What a step of months, years or days leads to, from every date and by every signed number.
-use Rattle.std.specs.Prelude.{ℕ, ◌≡◌, leb, ℤ, pos, negsuc, ◌+ℤ◌}
+use Rattle.std.specs.Prelude.{ℕ, ◌≡◌, leb, ℤ, pos, negsuc, ◌+ℤ◌, Result}
 use Rattle.outcome.specs.Outcome.{Outcome, given, refused, unless, and_then}
+use Rattle.outcome.specs.Refusals.{outcome_of}
+use Rattle.outcome.specs.declared.Refusal.{Refusal}
 use Rattle.calendar.specs.dates.Dates.{is_date, day_number, month_index, month_date}
-use Rattle.calendar.specs.serial.Answers.{date_outcome, date_of}
+use Rattle.calendar.specs.serial.Answers.{date_of}
 use Rattle.calendar.specs.declared.dates.Date.{Date}
-use Rattle.calendar.specs.declared.serial.DateAnswer.{DateAnswer}
-use Rattle.date_step.specs.declared.MovedAnswer.{MovedAnswer}
-use Rattle.date_step.specs.declared.MovedAnswer.TheVariants as place-answer
-
-abbrev pub moved_outcome : MovedAnswer → Outcome ℕ
-moved_outcome (place-answer.To i) = given i
-moved_outcome (place-answer.Refused n) = refused n
 
 -- a number from 0 to the last; 1 for any other
 unfoldable pub from_zero_to : ℕ → ℤ → Outcome ℕ
@@ -44,11 +39,11 @@ unfoldable pub add_days : Date → ℤ → Outcome Date
 add_days t n = unless (is_date t) 1 (days_later t n)
 
 -- what the entry points promise of their result r
-abbrev pub AddMonthsPromise : Date → ℤ → DateAnswer → Type 0
-AddMonthsPromise t n r = date_outcome r ≡ add_months t n
+abbrev pub AddMonthsPromise : Date → ℤ → Result Date Refusal → Type 0
+AddMonthsPromise t n r = outcome_of r ≡ add_months t n
 
-abbrev pub AddYearsPromise : Date → ℤ → DateAnswer → Type 0
-AddYearsPromise t n r = date_outcome r ≡ add_years t n
+abbrev pub AddYearsPromise : Date → ℤ → Result Date Refusal → Type 0
+AddYearsPromise t n r = outcome_of r ≡ add_years t n
 
-abbrev pub AddDaysPromise : Date → ℤ → DateAnswer → Type 0
-AddDaysPromise t n r = date_outcome r ≡ add_days t n
+abbrev pub AddDaysPromise : Date → ℤ → Result Date Refusal → Type 0
+AddDaysPromise t n r = outcome_of r ≡ add_days t n

@@ -1,19 +1,19 @@
 -- The laws of adjustment: none leaves every date, and what the other rules give is a business day
 -- on its side.
-use Prim.Native.Nat.{ℕ, ◌<◌}
+use Prim.Native.Nat.{ℕ, ◌<◌, ◌≤◌}
+use native.Mathlib.Omega.{arith}
 use mathlib.Core.Path.{◌≡◌, refl, sym, ◌∙◌, ap, subst}
 use mathlib.Core.Bool.{Bool, true, false}
 use mathlib.Core.List.{List}
 use lib.Dec.{eqb}
-use Rattle.outcome.specs.Outcome.{given, pick}
+use Rattle.outcome.specs.Outcome.{Outcome, given, and_then, pick}
 use Rattle.outcome.proofs.Outcomes.{given_injective, then_given}
-use Rattle.calendar.specs.dates.Dates.{is_date, day_number}
+use Rattle.calendar.specs.dates.Dates.{is_date, day_number, the_date}
 use Rattle.calendar.specs.serial.Answers.{date_of}
 use Rattle.calendar.specs.declared.dates.Date.{Date}
-use Rattle.calendar.proofs.dates.Dates.{IsDate, date-yes, number-from, number-to}
-use Rattle.calendar.proofs.dates.Inverse.{on-day}
-use Rattle.business_days.specs.table.Table.{ascending}
-use Rattle.business_days.specs.table.Search.{JudgedDay}
+use Rattle.calendar.specs.declared.dates.Day.{Day}
+use Rattle.calendar.proofs.dates.Dates.{IsDate, date-yes}
+use Rattle.calendar.proofs.dates.Inverse.{on-day, date_on-day}
 use Rattle.business_days.specs.table.Business.{is_business, next_from, prev_from}
 use Rattle.day_adjust.specs.Adjustment.{next_date, prev_date, modified_date, moved_date, adjusted}
 use Rattle.day_adjust.specs.declared.DayAdjust.{DayAdjust}
@@ -28,17 +28,8 @@ none_stays t table = by (is_business table (day_number t))
     by true = refl
     by false = refl
 
--- a judged date's serial day, over holidays that ascend
-pub judged : (t : Date) (table : List ℕ) → is_date t ≡ true → ascending table ≡ true → JudgedDay (day_number t) table
-judged t table d a =
-    let h = date-yes t d in
-    record { from = number-from t h; to = number-to t h; sorted = a }
-
--- and of its serial day by another name; a business day stays, and any other moves
+-- a business day stays, and any other moves
 module _ (t : Date) (n : ℕ) (table : List ℕ) (own : n ≡ day_number t) where
-  pub judged-at : is_date t ≡ true → ascending table ≡ true → JudgedDay n table
-  judged-at d a = subst (λ (x : ℕ). JudgedDay x table) (sym own) (judged t table d a)
-
   pub open_stays : (r : DayAdjust) → is_business table n ≡ true → given t ≡ adjusted r t table
   unfolding adjusted
   open_stays r b = rw (ap (is_business table) (sym own) ∙ b)
@@ -46,6 +37,26 @@ module _ (t : Date) (n : ℕ) (table : List ℕ) (own : n ≡ day_number t) wher
   pub shut_moves : (r : DayAdjust) → is_business table n ≡ false → moved_date r t n table ≡ adjusted r t table
   unfolding adjusted
   shut_moves r b = rw (ap (is_business table) (sym own) ∙ b) (ap (λ (x : ℕ). moved_date r t x table) own)
+
+-- a day that a search gives is one of the calendar, and its date is what is asked for
+module _ (table : List ℕ) (n : ℕ) (d : Day) where
+  pub next_dated : 1 ≤ n → given d ≡ next_from table n → (1 ≤ d.0) × (d.0 ≤ 3652059)
+  next_dated from found = let g = next_gives table n d (sym found) in (omega arith, omega arith)
+
+  pub prev_dated : n ≤ 3652059 → given d ≡ prev_from table n → (1 ≤ d.0) × (d.0 ≤ 3652059)
+  prev_dated to found = let g = prev_gives table n d (sym found) in (omega arith, omega arith)
+
+  pub on_next : (u : Date) → 1 ≤ n → given d ≡ next_from table n → u ≡ the_date d.0 → given u ≡ next_date table n
+  unfolding next_date
+  on_next u from found e =
+      let c = next_dated from found in
+      ap given e ∙ date_on-day d c.0 c.1 ∙ ap (λ (o : Outcome Day). and_then o date_of) found
+
+  pub on_prev : (u : Date) → n ≤ 3652059 → given d ≡ prev_from table n → u ≡ the_date d.0 → given u ≡ prev_date table n
+  unfolding prev_date
+  on_prev u to found e =
+      let c = prev_dated to found in
+      ap given e ∙ date_on-day d c.0 c.1 ∙ ap (λ (o : Outcome Day). and_then o date_of) found
 
 -- what a search gives is the date of the business day it found
 pub record Moved (table : List ℕ) (u : Date) : Type 0 where

@@ -1,16 +1,18 @@
 -- No second answer satisfies the entry point's promise; and a refusal's number is never 0.
+use Rattle.std.specs.Prelude.{Result}
 use Prim.Native.Nat.{ℕ}
 use mathlib.Core.Path.{◌≡◌, sym, ◌∙◌}
 use mathlib.Core.List.{List}
 use native.Mathlib.Omega.{arith}
 use lib.Dec.{eqb}
 use Rattle.outcome.specs.Outcome.{given, Numbered, pick}
+use Rattle.outcome.specs.declared.Refusal.{Refusal}
 use Rattle.outcome.proofs.Outcomes.{unless_numbered, then_numbered, pick_numbered}
+use Rattle.outcome.proofs.Refusals.{same_result}
 use Rattle.calendar.specs.dates.Dates.{is_date, day_number}
 use Rattle.calendar.specs.serial.Answers.{date_of}
 use Rattle.calendar.specs.declared.dates.Date.{Date}
-use Rattle.calendar.specs.declared.serial.DateAnswer.{DateAnswer}
-use Rattle.calendar.proofs.dates.OneOutcome.{same_date_answer, date_of_numbered}
+use Rattle.calendar.proofs.dates.OneOutcome.{date_of_numbered}
 use Rattle.business_days.specs.table.Table.{is_table}
 use Rattle.business_days.specs.table.Business.{is_business, next_from, prev_from}
 use Rattle.day_adjust.specs.Adjustment.{next_date, prev_date, modified_date, moved_date, adjusted, adjust_date, AdjustPromise}
@@ -18,8 +20,8 @@ use Rattle.day_adjust.specs.declared.DayAdjust.{DayAdjust}
 use Rattle.day_adjust.specs.declared.DayAdjust.TheVariants as rule
 use Rattle.business_days.proofs.days.OneOutcome.{next_from_numbered, prev_from_numbered}
 
-pub one_adjust : (r : DayAdjust) (t : Date) (table : List ℕ) (a b : DateAnswer) → AdjustPromise r t table a → AdjustPromise r t table b → a ≡ b
-one_adjust r t table a b p q = same_date_answer a b (p ∙ sym q)
+pub one_adjust : (r : DayAdjust) (t : Date) (table : List ℕ) (a b : Result Date Refusal) → AdjustPromise r t table a → AdjustPromise r t table b → a ≡ b
+one_adjust r t table a b p q = same_result a b (p ∙ sym q)
 
 -- every refusal has its number
 next_numbered : (table : List ℕ) (n : ℕ) → Numbered (next_date table n)

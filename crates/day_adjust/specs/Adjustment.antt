@@ -1,10 +1,11 @@
 -- Day adjustment: none, following, preceding and modified.
-use Rattle.std.specs.Prelude.{ℕ, ◌≡◌, List, eqb}
+use Rattle.std.specs.Prelude.{ℕ, ◌≡◌, List, eqb, Result}
 use Rattle.outcome.specs.Outcome.{Outcome, given, unless, and_then, pick}
+use Rattle.outcome.specs.Refusals.{outcome_of}
+use Rattle.outcome.specs.declared.Refusal.{Refusal}
 use Rattle.calendar.specs.dates.Dates.{is_date, day_number}
-use Rattle.calendar.specs.serial.Answers.{date_outcome, date_of}
+use Rattle.calendar.specs.serial.Answers.{date_of}
 use Rattle.calendar.specs.declared.dates.Date.{Date}
-use Rattle.calendar.specs.declared.serial.DateAnswer.{DateAnswer}
 use Rattle.business_days.specs.table.Table.{is_table}
 use Rattle.business_days.specs.table.Business.{is_business, next_from, prev_from}
 use Rattle.day_adjust.specs.declared.DayAdjust.{DayAdjust}
@@ -37,5 +38,5 @@ unfoldable pub adjust_date : DayAdjust → Date → List ℕ → Outcome Date
 adjust_date r t table = unless (is_date t) 1 (unless (is_table table) 13 (adjusted r t table))
 
 -- what the entry point promises of its result
-abbrev pub AdjustPromise : DayAdjust → Date → List ℕ → DateAnswer → Type 0
-AdjustPromise r t table answer = date_outcome answer ≡ adjust_date r t table
+abbrev pub AdjustPromise : DayAdjust → Date → List ℕ → Result Date Refusal → Type 0
+AdjustPromise r t table answer = outcome_of answer ≡ adjust_date r t table

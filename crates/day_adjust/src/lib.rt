@@ -3,17 +3,16 @@
 
 ghost use Rattle.std.specs.Prelude.{◌≡◌, true, ◌||◌, ◌≤◌, eqb, leb};
 ghost use Rattle.outcome.specs.Outcome.{given, and_then, pick};
+ghost use Rattle.outcome.specs.Refusals.{outcome_of};
 ghost use Rattle.calendar.specs.gregorian.Gregorian.{month_length};
 ghost use Rattle.calendar.specs.dates.Dates.{is_date, day_number, the_date};
-ghost use Rattle.calendar.specs.serial.Answers.{date_outcome};
-ghost use Rattle.business_days.specs.table.Table.{ascending};
-ghost use Rattle.business_days.specs.table.Search.{IsLowerBound};
 ghost use Rattle.day_adjust.specs.Adjustment.{next_date, prev_date, moved_date, adjusted, AdjustPromise};
 
-use business_days::Place;
-use calendar::{Date, DateAnswer, DayAnswer};
+use business_days::Spot;
+use calendar::{Date, date_of_day, day_of_date, is_date, length_of_month};
+use outcome::Refusal;
 
-#[derive(Clone, Copy)]
+#[derive(Clone, Copy, Debug, PartialEq, Eq)]
 pub enum DayAdjust {
     None,
     Following,
@@ -26,123 +25,113 @@ fn reaches(year: u32, month: u32, day: u32) -> bool
     requires { (1 ≤ month) × (month ≤ 12) }
     ensures { result ≡ leb day (month_length year month) }
 {
-    if day <= 28 {
-        return true;
-    }
-    day <= calendar::length_of_month(year, month)
+    day <= 28 || day <= length_of_month(year, month)
 }
 
-// The date of a day near one whose date is known: within its month only the day's number differs,
-// which takes no division.
-fn date_near(t: Date, n: u32, at: u32) -> Date
-    requires { (is_date t ≡ true) × (n ≡ day_number t) × (1 ≤ at) × (at ≤ 3652059) }
-    ensures { result ≡ the_date at }
-{
-    if at < n {
-        let back = n - at;
-        if back < t.day {
-            return Date {
-                year: t.year,
-                month: t.month,
-                day: t.day - back,
-            };
-        }
-        return calendar::date_of_day(at);
-    }
-    let day = t.day + (at - n);
-    if reaches(t.year, t.month, day) {
-        return Date {
-            year: t.year,
-            month: t.month,
-            day,
-        };
-    }
-    calendar::date_of_day(at)
+// A date, and the spot of its serial day. The methods are inlined, so that the parts stay in
+// registers.
+#[derive(Clone, Copy)]
+pub struct DateSpot<'a> {
+    pub date: Date,
+    pub spot: Spot<'a>,
+    pub ghost exists: { is_date date ≡ true },
+    pub ghost own: { spot.day ≡ day_number date },
 }
 
-fn next_date(t: Date, n: u32, table: &[u32], i: usize) -> DateAnswer
-    requires { (is_date t ≡ true) × (n ≡ day_number t) × (ascending table.now ≡ true) × (IsLowerBound table.now n i) }
-    ensures { date_outcome result ≡ next_date table.now n }
-{
-    match business_days::next_at(n, table, i) {
-        DayAnswer::Day(d) => DateAnswer::Date(date_near(t, n, d.0)),
-        DayAnswer::Refused(k) => DateAnswer::Refused(k),
-    }
-}
-
-fn prev_date(t: Date, n: u32, table: &[u32], i: usize) -> DateAnswer
-    requires { (is_date t ≡ true) × (n ≡ day_number t) × (ascending table.now ≡ true) × (IsLowerBound table.now n i) }
-    ensures { date_outcome result ≡ prev_date table.now n }
-{
-    match business_days::prev_at(n, table, i) {
-        DayAnswer::Day(d) => DateAnswer::Date(date_near(t, n, d.0)),
-        DayAnswer::Refused(k) => DateAnswer::Refused(k),
-    }
-}
-
-// Following and modified look ahead first. Modified turns back where the month differs, and only
-// compares its number, as finql does.
-fn ahead_date(across: bool, t: Date, n: u32, table: &[u32], i: usize) -> DateAnswer
-    requires { (is_date t ≡ true) × (n ≡ day_number t) × (ascending table.now ≡ true) × (IsLowerBound table.now n i) }
-    ensures { date_outcome result ≡ and_then (next_date table.now n) (λ u. pick (across || eqb u.month t.month) (given u) (prev_date table.now n)) }
-{
-    match next_date(t, n, table, i) {
-        DateAnswer::Date(u) => {
-            if across {
-                return DateAnswer::Date(u);
+impl<'a> DateSpot<'a> {
+    // The date of a day near it: within its month only the day's number differs, which takes no
+    // division.
+    #[inline(always)]
+    fn date_near(self, at: u32) -> Date
+        requires { (1 ≤ at) × (at ≤ 3652059) }
+        ensures { result ≡ the_date at }
+    {
+        let t = self.date;
+        let n = self.spot.day;
+        if at < n {
+            let back = n - at;
+            if back < t.day {
+                return Date {
+                    day: t.day - back,
+                    ..t
+                };
             }
-            if u.month == t.month {
-                return DateAnswer::Date(u);
+        } else {
+            let day = t.day + (at - n);
+            if reaches(t.year, t.month, day) {
+                return Date { day, ..t };
             }
-            prev_date(t, n, table, i)
         }
-        DateAnswer::Refused(k) => DateAnswer::Refused(k),
+        date_of_day(at)
     }
-}
 
-// Where a day that is no business day moves.
-fn moved_date(rule: DayAdjust, t: Date, n: u32, table: &[u32], i: usize) -> DateAnswer
-    requires { (is_date t ≡ true) × (n ≡ day_number t) × (ascending table.now ≡ true) × (IsLowerBound table.now n i) }
-    ensures { date_outcome result ≡ moved_date rule t n table.now }
-{
-    match rule {
-        DayAdjust::None => DateAnswer::Date(t),
-        DayAdjust::Following => ahead_date(true, t, n, table, i),
-        DayAdjust::Preceding => prev_date(t, n, table, i),
-        DayAdjust::Modified => ahead_date(false, t, n, table, i),
+    // The dates of the next and of the previous business day.
+    #[inline(always)]
+    fn next(self) -> Result<Date, Refusal>
+        ensures { outcome_of result ≡ next_date self.entry.spot.holidays.days.now self.entry.spot.day }
+    {
+        let day = self.spot.next()?;
+        Ok(self.date_near(day.0))
     }
-}
 
-// Inner: the adjusted date; asks for a date that exists, its day and its place among the holidays.
-pub fn adjust_at(rule: DayAdjust, t: Date, n: u32, table: &[u32], i: usize) -> DateAnswer
-    requires { (is_date t ≡ true) × (n ≡ day_number t) × (ascending table.now ≡ true) × (IsLowerBound table.now n i) }
-    ensures { date_outcome result ≡ adjusted rule t table.now }
-{
-    // A rollout judges its table once and searches it once.
-    if business_days::business_at(n, table, i) {
-        return DateAnswer::Date(t);
+    #[inline(always)]
+    fn previous(self) -> Result<Date, Refusal>
+        ensures { outcome_of result ≡ prev_date self.entry.spot.holidays.days.now self.entry.spot.day }
+    {
+        let day = self.spot.previous()?;
+        Ok(self.date_near(day.0))
     }
-    moved_date(rule, t, n, table, i)
+
+    // Following and modified look ahead first. Modified turns back where the month differs, and
+    // only compares its number, as finql does.
+    #[inline(always)]
+    fn ahead(self, across: bool) -> Result<Date, Refusal>
+        ensures { let table = self.entry.spot.holidays.days.now in let n = self.entry.spot.day in outcome_of result ≡ and_then (next_date table n) (λ u. pick (across || eqb u.month self.entry.date.month) (given u) (prev_date table n)) }
+    {
+        let u = self.next()?;
+        if across || u.month == self.date.month {
+            return Ok(u);
+        }
+        self.previous()
+    }
+
+    // Where it moves that is no business day.
+    #[inline(always)]
+    fn moved(self, rule: DayAdjust) -> Result<Date, Refusal>
+        ensures { outcome_of result ≡ moved_date rule self.entry.date self.entry.spot.day self.entry.spot.holidays.days.now }
+    {
+        match rule {
+            DayAdjust::None => Ok(self.date),
+            DayAdjust::Following => self.ahead(true),
+            DayAdjust::Preceding => self.previous(),
+            DayAdjust::Modified => self.ahead(false),
+        }
+    }
+
+    // Inner: the adjusted date.
+    #[inline(always)]
+    pub fn adjusted(self, rule: DayAdjust) -> Result<Date, Refusal>
+        ensures { outcome_of result ≡ adjusted rule self.entry.date self.entry.spot.holidays.days.now }
+    {
+        // Most dates stay, and then no call is made.
+        if self.spot.is_business() {
+            return Ok(self.date);
+        }
+        self.moved(rule)
+    }
 }
 
 // The date that a date is adjusted to by one of four rules; refused 1, 13 (under none too), then 1
 // for the result.
-pub fn adjust_date(rule: DayAdjust, t: Date, table: &[u32]) -> DateAnswer
+#[tactic(auto, unfolding(crate::specs::Adjustment::adjust_date))]
+pub fn adjust_date(rule: DayAdjust, t: Date, table: &[u32]) -> Result<Date, Refusal>
     ensures { AdjustPromise rule t table.now result }
 {
-    // The last steps are those of `adjust_at`, written out: most dates stay, and then no call is
-    // made.
-    if !calendar::is_date(t) {
-        return DateAnswer::Refused(outcome::INVALID_DATE);
+    if !is_date(t) {
+        return Err(Refusal::InvalidDate);
     }
-    let n = calendar::day_of_date(t);
-    match business_days::place_in(table, n) {
-        Place::At(i) => {
-            if business_days::business_at(n, table, i) {
-                return DateAnswer::Date(t);
-            }
-            moved_date(rule, t, n, table, i)
-        }
-        Place::NoTable => DateAnswer::Refused(outcome::BAD_HOLIDAY_TABLE),
-    }
+    let Some(spot) = Spot::judged(day_of_date(t), table) else {
+        return Err(Refusal::BadHolidayTable);
+    };
+    DateSpot { date: t, spot }.adjusted(rule)
 }

@@ -1,2 +1,3 @@
 pub mod Conventions
 pub mod Whole
+pub mod Judging

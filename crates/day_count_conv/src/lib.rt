@@ -5,7 +5,7 @@ pub mod conventions;
 pub mod fractions;
 pub mod judged;
 
-pub use conventions::{DayCountConv, NoteTerms, RollDate, RollPeriod, YearFraction};
+pub use conventions::{DayCountConv, NoteTerms};
 pub use fractions::year_fraction;
 
 // Inner: for the crates of the register, which have judged what these ask for.

@@ -2,10 +2,11 @@
 -- one month, and exactly there the `f64` is.
 use mathlib.Core.Path.{◌≡◌, refl, sym, ◌∙◌, ap}
 use Prim.Native.Nat.{ℕ, ◌^◌, ◌≤◌, ◌<◌}
-use mathlib.Core.Bool.{Bool, true, false, not, true≢false}
+use mathlib.Core.Bool.{Bool, true, false, not, ◌&&◌, true≢false}
 use native.Mathlib.Omega.{arith}
 use native.Mathlib.Decide.{dec_lt}
-use borrow.Author.Tests.{eq-eqb, ne_eqb}
+use borrow.Author.Tests.{eq-eqb, ne_eqb, eqb-true, eqb-false}
+use lib.Dec.{eqb}
 use lib.IntN.{ℤ, pos, nat_abs}
 use lib.Ieee.{binary64, add, div, of_int, of_bits, eq}
 use Rattle.outcome.specs.Outcome.{both}
@@ -129,3 +130,27 @@ decides s e p b y n = (by D30_360 refl b y n, by D30E360 refl b y n)
     by : (rule : SimpleRule) → counts_thirties rule ≡ true → (b : Bool) → (b ≡ true → Overnight s e) → (b ≡ false → Overnight s e → ⊥) → b ≡ impossible rule s e
     by rule r true y n = sym (impossible-yes s e (date-yes s p.first) (date-yes e p.last) p.order rule r (y refl))
     by rule r false y n = sym (impossible_no s e (date-yes s p.first) (date-yes e p.last) p.order rule (λ q. n refl))
+
+-- both rules are decided by four tests
+abbrev pub is_overnight : Date → Date → Bool
+is_overnight s e = eqb s.day 30 && (eqb e.day 31 && (eqb s.month e.month && eqb s.year e.year))
+
+module _ (s e : Date) (p : Span s e) where
+  by_tests : (rule : SimpleRule) → counts_thirties rule ≡ true → impossible rule s e ≡ is_overnight s e
+  by_tests rule r = by (eqb s.day 30) (eqb e.day 31) (eqb s.month e.month) (eqb s.year e.year) refl refl refl refl
+    where
+      no : ((Overnight s e) → ⊥) → impossible rule s e ≡ false
+      no n = impossible_no s e (date-yes s p.first) (date-yes e p.last) p.order rule (λ q. n)
+
+      by : (a b c d : Bool) → eqb s.day 30 ≡ a → eqb e.day 31 ≡ b → eqb s.month e.month ≡ c → eqb s.year e.year ≡ d → impossible rule s e ≡ a && (b && (c && d))
+      by false b c d i j k l = no (λ o. eqb-false _ _ i o.start)
+      by true false c d i j k l = no (λ o. eqb-false _ _ j o.end)
+      by true true false d i j k l = no (λ o. eqb-false _ _ k o.month)
+      by true true true false i j k l = no (λ o. eqb-false _ _ l o.year)
+      by true true true true i j k l = impossible-yes s e (date-yes s p.first) (date-yes e p.last) p.order rule r (record { year = eqb-true _ _ l; month = eqb-true _ _ k; start = eqb-true _ _ i; end = eqb-true _ _ j })
+
+  pub overnight_360 : impossible D30_360 s e ≡ is_overnight s e
+  overnight_360 = by_tests D30_360 refl
+
+  pub overnight_e360 : impossible D30E360 s e ≡ is_overnight s e
+  overnight_e360 = by_tests D30E360 refl

@@ -3,6 +3,8 @@ ghost use Rattle.std.specs.Prelude.{◌≡◌, ◌*◌, ◌≤◌, ◌<◌, ◌^
 ghost use Rattle.number_text.specs.write.Writing.{digits};
 ghost use Rattle.decimal.specs.big_digits.BigDigits.{Multiplied, Scaled, CountsZeros};
 
+use number_text::Writer;
+
 // So many factors two at once: ten times 2^48 is far below 2^64.
 const TWOS_AT_ONCE: usize = 48;
 
@@ -11,10 +13,8 @@ fn multiply(m: u64, out: &mut [u8])
     requires { m ≤ 2 ^ 48 }
     ensures { Multiplied m out.old out.new }
 {
-    let mut i = out.len();
     let mut carry: u64 = 0;
-    while 0 < i {
-        i -= 1;
+    for i in (0..out.len()).rev() {
         let t = (out[i] % 16) as u64 * m + carry;
         out[i] = b'0' + (t % 10) as u8;
         carry = t / 10;
@@ -33,25 +33,16 @@ pub fn put_scaled(n: u64, twos: usize, out: &mut [u8])
     ensures { Scaled n twos out.old out.new }
 {
     let count = out.len();
-    number_text::put_digits(n, count, out, 0);
-    let mut left = twos;
-    while TWOS_AT_ONCE < left {
+    Writer::new(out).put_digits(n, count);
+    for _ in 0..twos / TWOS_AT_ONCE {
         multiply(power_of_two(TWOS_AT_ONCE), out);
-        left -= TWOS_AT_ONCE;
     }
-    multiply(power_of_two(left), out);
+    multiply(power_of_two(twos % TWOS_AT_ONCE), out);
 }
 
 // How many bytes `0` stand in front of any other byte.
 pub fn leading_zeros(s: &[u8]) -> usize
     ensures { CountsZeros s.now result }
 {
-    let mut i: usize = 0;
-    while i < s.len() {
-        if s[i] != b'0' {
-            return i;
-        }
-        i += 1;
-    }
-    i
+    s.iter().position(|b| *b != b'0').unwrap_or(s.len())
 }

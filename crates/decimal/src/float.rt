@@ -1,23 +1,24 @@
 // An f64 as text, as Rust's `{:16.4}`: four decimals, right-aligned in at least 16 columns.
-ghost use Rattle.std.specs.Prelude.{◌≡◌, true, ◌+◌, ◌*◌, ◌^◌, ◌≤◌, ◌<◌, length};
+ghost use Rattle.std.specs.Prelude.{◌≡◌, true, ◌*◌, ◌^◌, ◌≤◌, ◌<◌};
 ghost use Rattle.std.specs.Float.{binary64};
 ghost use Rattle.std.specs.Float.Ieee.{of_bits};
 ghost use Rattle.std.specs.Float.Ieee.Nearest.{closest};
 ghost use Rattle.std.specs.Float.Ieee.Scale.{finite};
-ghost use Rattle.number_text.specs.write.Writing.{Wrote};
+ghost use Rattle.number_text.specs.write.Writing.{HasRoom, Puts};
 ghost use Rattle.decimal.specs.float.Decimal.{decimal_text16, DecimalTakes, DecimalWrites};
 ghost use Rattle.decimal.specs.float.Parts.{PartsOf};
 
-use number_text::LengthAnswer;
+use crate::four_decimals;
+use number_text::Writer;
+use outcome::Refusal;
 
-// A number's sign and ten-thousandths.
+// A finite number's sign and ten-thousandths.
 #[derive(Clone, Copy)]
 enum Parts {
     // Below 2^49 they fit.
     Small(bool, u64),
     // From there on they are this number times so many factors two.
     Large(bool, u64, usize),
-    NotFinite,
 }
 
 // n / 2^p, an exact half to the even whole number.
@@ -50,80 +51,69 @@ fn ten_thousandths(q: u64, k: u64) -> u64
 }
 
 // From the sign bit, the exponent's field and the digits' field.
-fn parts_of_bits(b: u64) -> Parts
+fn parts_of_bits(b: u64) -> Option<Parts>
     ensures { PartsOf (of_bits binary64 b) result }
 {
     let negative = 0x8000_0000_0000_0000 <= b;
     let field = b % 0x8000_0000_0000_0000 / 0x10_0000_0000_0000;
     let digits = b % 0x10_0000_0000_0000;
     if field == 2047 {
-        return Parts::NotFinite;
+        return None;
     }
     if field == 0 {
-        return Parts::Small(negative, ten_thousandths(digits, 0));
+        return Some(Parts::Small(negative, ten_thousandths(digits, 0)));
     }
     let q = 0x10_0000_0000_0000 + digits;
     if 1071 < field {
-        return Parts::Large(negative, q * 625, (field - 1071) as usize);
+        return Some(Parts::Large(negative, q * 625, (field - 1071) as usize));
     }
-    Parts::Small(negative, ten_thousandths(q, field - 1))
+    Some(Parts::Small(negative, ten_thousandths(q, field - 1)))
 }
 
-fn parts_of(x: f64) -> Parts
+fn parts_of(x: f64) -> Option<Parts>
     ensures { PartsOf x result }
 {
     if x != x {
-        return Parts::NotFinite;
+        return None;
     }
     parts_of_bits(f64::to_bits(x))
 }
 
 // How many bytes an f64 with four decimals takes; refused 15 where it is not finite.
-pub fn decimal_length(x: f64) -> LengthAnswer
+pub fn decimal_length(x: f64) -> Result<usize, Refusal>
     ensures { DecimalTakes x result }
 {
-    match parts_of(x) {
-        Parts::Small(negative, tens) => LengthAnswer::Length(crate::four_decimals::small_length(
-            negative, tens,
-        )),
-        Parts::Large(negative, n, twos) => {
-            LengthAnswer::Length(crate::four_decimals::large_length(negative, n, twos))
-        }
-        Parts::NotFinite => LengthAnswer::Refused(outcome::NUMBER_OUT_OF_LIMITS),
-    }
+    let Some(parts) = parts_of(x) else {
+        return Err(Refusal::NumberOutOfLimits);
+    };
+    Ok(match parts {
+        Parts::Small(negative, tens) => four_decimals::small_length(negative, tens),
+        Parts::Large(negative, n, twos) => four_decimals::large_length(negative, n, twos),
+    })
 }
 
-// Inner: the text of an f64 at a place; asks for a finite number and room.
-pub fn put_decimal_at(x: f64, out: &mut [u8], at: usize) -> usize
-    requires x_value { finite x ≡ true }
-    requires x_in_bounds { at + length (decimal_text16 x) ≤ length out.old }
-    ensures { Wrote out.old out.new at (decimal_text16 x) result }
+// Inner: the text of an f64; asks for a finite number and room.
+pub fn put_decimal_at(x: f64, w: &mut Writer)
+    requires x_finite { finite x ≡ true }
+    requires room { HasRoom w.old (decimal_text16 x) }
+    ensures { Puts w.old w.new (decimal_text16 x) }
 {
-    match parts_of(x) {
-        Parts::Small(negative, tens) => {
-            return crate::four_decimals::put_small(negative, tens, out, at);
-        }
-        Parts::Large(negative, n, twos) => {
-            return crate::four_decimals::put_large(negative, n, twos, out, at);
-        }
-        Parts::NotFinite => {
-            return at;
-        }
+    match parts_of(x).unwrap() {
+        Parts::Small(negative, tens) => four_decimals::put_small(negative, tens, w),
+        Parts::Large(negative, n, twos) => four_decimals::put_large(negative, n, twos, w),
     }
 }
 
 // An f64 with four decimals of its exact value, a half to the even digit, in at least 16 columns in
 // front of the lent bytes; refused 15, 16.
-pub fn write_decimal(x: f64, out: &mut [u8]) -> LengthAnswer
+pub fn write_decimal(x: f64, out: &mut [u8]) -> Result<usize, Refusal>
     ensures { DecimalWrites x out.old out.new result }
 {
-    match decimal_length(x) {
-        LengthAnswer::Length(k) => {
-            if out.len() < k {
-                return LengthAnswer::Refused(outcome::TOO_FEW_PLACES);
-            }
-            LengthAnswer::Length(put_decimal_at(x, out, 0))
-        }
-        LengthAnswer::Refused(n) => LengthAnswer::Refused(n),
+    let k = decimal_length(x)?;
+    if out.len() < k {
+        return Err(Refusal::TooFewPlaces);
     }
+    let mut w = Writer::new(out);
+    put_decimal_at(x, &mut w);
+    Ok(w.at)
 }

@@ -1,77 +1,53 @@
 // A sign and so many ten-thousandths as text: four decimals, right-aligned in at least 16 columns.
-ghost use Rattle.std.specs.Prelude.{◌≡◌, ◌∷◌, ◌+◌, ◌-◌, ◌*◌, ◌/◌, ◌^◌, ◌≤◌, ◌<◌, max, length, drop};
-ghost use Rattle.number_text.specs.write.Writing.{digits, decimal_text, sign_text, Wrote};
+ghost use Rattle.std.specs.Prelude.{◌≡◌, ◌+◌, ◌-◌, ◌*◌, ◌/◌, ◌^◌, ◌≤◌, ◌<◌, max, length};
+ghost use Rattle.number_text.specs.write.Writing.{sign_text, HasRoom, Puts};
 ghost use Rattle.decimal.specs.four_decimals.FourDecimals.{four_decimals};
-ghost use Rattle.decimal.specs.four_decimals.Pieces.{signed_decimals, front_text, whole_start, pointed, array_text};
+ghost use Rattle.decimal.specs.four_decimals.Pieces.{signed_decimals, front_text, whole_start, array_text};
 
-// How many bytes a number of `size` bytes takes with its sign, in at least 16 columns.
+use number_text::Writer;
+
+const COLUMNS: usize = 16;
+
+// How many bytes a number of `size` bytes takes with its sign.
 fn columns(negative: bool, size: usize) -> usize
     requires { size ≤ 1000 }
     ensures { result ≡ max 16 (length (sign_text negative) + size) }
 {
-    if negative {
-        if size < 15 { 16 } else { size + 1 }
-    } else {
-        if size < 16 { 16 } else { size }
-    }
-}
-
-// How many blanks stand before the sign.
-fn blanks(negative: bool, size: usize) -> usize
-    ensures { result ≡ 16 - (length (sign_text negative) + size) }
-{
-    if negative {
-        if size < 15 { 15 - size } else { 0 }
-    } else {
-        if size < 16 { 16 - size } else { 0 }
-    }
+    (usize::from(negative) + size).max(COLUMNS)
 }
 
 // The blanks and the sign before a number of `size` bytes.
-fn put_front(negative: bool, size: usize, out: &mut [u8], at: usize) -> usize
-    requires { at + length (front_text negative size) ≤ length out.old }
-    ensures { Wrote out.old out.new at (front_text negative size) result }
+fn put_front(negative: bool, size: usize, w: &mut Writer)
+    requires { HasRoom w.old (front_text negative size) }
+    ensures { Puts w.old w.new (front_text negative size) }
 {
-    let first = number_text::put_run(b' ', blanks(negative, size), out, at);
-    number_text::put_sign(negative, out, first)
+    let blanks = COLUMNS
+        .saturating_sub(size)
+        .saturating_sub(usize::from(negative));
+    w.put_run(b' ', blanks);
+    w.put_sign(negative);
 }
 
-// A point and the last four digits.
-fn put_fraction(tens: u64, out: &mut [u8], at: usize) -> usize
-    requires { at + 5 ≤ length out.old }
-    ensures { Wrote out.old out.new at (46 ∷ digits 4 tens) result }
+// Inner: the text of so many ten-thousandths; asks for room.
+pub(crate) fn put_small(negative: bool, tens: u64, w: &mut Writer)
+    requires { HasRoom w.old (signed_decimals negative tens) }
+    ensures { Puts w.old w.new (signed_decimals negative tens) }
 {
-    out[at] = b'.';
-    number_text::put_digits(tens, 4, out, at + 1)
-}
-
-// The whole part, of `count` digits, and the fraction.
-fn put_tens(tens: u64, count: usize, out: &mut [u8], at: usize) -> usize
-    requires count_value { count ≡ length (decimal_text (tens / 10000)) }
-    requires tens_in_bounds { at + length (four_decimals tens) ≤ length out.old }
-    ensures { Wrote out.old out.new at (four_decimals tens) result }
-{
-    let next = number_text::put_digits(tens / 10000, count, out, at);
-    put_fraction(tens, out, next)
-}
-
-// Inner: the text of so many ten-thousandths at a place; asks for room.
-pub(crate) fn put_small(negative: bool, tens: u64, out: &mut [u8], at: usize) -> usize
-    requires { at + length (signed_decimals negative tens) ≤ length out.old }
-    ensures { Wrote out.old out.new at (signed_decimals negative tens) result }
-{
-    let count = number_text::decimal_length(tens / 10000);
-    let first = put_front(negative, count + 5, out, at);
-    put_tens(tens, count, out, first)
+    let whole = tens / 10000;
+    let count = number_text::decimal_length(whole);
+    put_front(negative, count + 5, w);
+    w.put_digits(whole, count);
+    w.put(b'.');
+    w.put_digits(tens, 4);
 }
 
 // Inner: how many bytes the text of so many ten-thousandths takes.
 pub(crate) fn small_length(negative: bool, tens: u64) -> usize
     ensures { result ≡ length (signed_decimals negative tens) }
 {
-    // Below ten thousand million a number fills the 16 columns at the most: nothing is counted.
+    // Below ten thousand million a number fills the columns at the most: nothing is counted.
     if tens < 100_000_000_000_000 {
-        return 16;
+        return COLUMNS;
     }
     columns(negative, number_text::decimal_length(tens / 10000) + 5)
 }
@@ -89,72 +65,47 @@ fn digits_enough(twos: usize) -> usize
 // latest.
 fn whole_start(d: &[u8]) -> usize
     requires { 5 ≤ length d.now }
-    ensures { result ≡ whole_start d.now }
+    ensures value { result ≡ whole_start d.now }
+    ensures before_last { result + 5 ≤ length d.now }
 {
     let end = d.len() - 5;
     crate::big_digits::leading_zeros(&d[..end])
 }
 
-// A point and the last four of the digits d.
-fn put_last_four(d: &[u8], out: &mut [u8], at: usize) -> usize
-    requires in_bounds { 4 ≤ length d.now }
-    requires at_in_bounds { at + 5 ≤ length out.old }
-    ensures { Wrote out.old out.new at (46 ∷ drop (length d.now - 4) d.now) result }
-{
-    let from = d.len() - 4;
-    out[at] = b'.';
-    number_text::put_bytes(&d[from..], out, at + 1)
-}
-
-// The digits d from place `start` on, with the point.
-fn put_pointed(d: &[u8], start: usize, out: &mut [u8], at: usize) -> usize
-    requires start_in_bounds { start + 5 ≤ length d.now }
-    requires start_in_bounds_2 { at + (length d.now - start + 1) ≤ length out.old }
-    ensures { Wrote out.old out.new at (pointed d.now start) result }
-{
-    let end = d.len() - 4;
-    let next = number_text::put_bytes(&d[start..end], out, at);
-    put_last_four(d, out, next)
-}
-
 // The digits d of a number of ten-thousandths, as text.
-fn put_array(negative: bool, d: &[u8], out: &mut [u8], at: usize) -> usize
+fn put_array(negative: bool, d: &[u8], w: &mut Writer)
     requires in_bounds { (5 ≤ length d.now) × (length d.now ≤ 347) }
-    requires d_in_bounds { at + length (array_text negative d.now) ≤ length out.old }
-    ensures { Wrote out.old out.new at (array_text negative d.now) result }
+    requires room { HasRoom w.old (array_text negative d.now) }
+    ensures { Puts w.old w.new (array_text negative d.now) }
 {
     let start = whole_start(d);
-    let first = put_front(negative, d.len() + 1 - start, out, at);
-    put_pointed(d, start, out, first)
+    let point = d.len() - 4;
+    put_front(negative, d.len() + 1 - start, w);
+    w.put_bytes(&d[start..point]);
+    w.put(b'.');
+    w.put_bytes(&d[point..]);
 }
 
-fn put_by_digits(
-    negative: bool,
-    n: u64,
-    twos: usize,
-    space: &mut [u8],
-    out: &mut [u8],
-    at: usize,
-) -> usize
+fn put_by_digits(negative: bool, n: u64, twos: usize, space: &mut [u8], w: &mut Writer)
     requires in_bounds { (5 ≤ length space.old) × (length space.old ≤ 347) }
     requires twos_bound { n * 2 ^ twos < 10 ^ length space.old }
-    requires twos_in_bounds { at + length (signed_decimals negative (n * 2 ^ twos)) ≤ length out.old }
-    ensures { Wrote out.old out.new at (signed_decimals negative (n * 2 ^ twos)) result }
+    requires room { HasRoom w.old (signed_decimals negative (n * 2 ^ twos)) }
+    ensures { Puts w.old w.new (signed_decimals negative (n * 2 ^ twos)) }
 {
     crate::big_digits::put_scaled(n, twos, space);
-    put_array(negative, space, out, at)
+    put_array(negative, space, w);
 }
 
 // Inner: the text of n x 2^twos ten-thousandths; asks for n below 2^63, twos up to 975 and room.
-pub(crate) fn put_large(negative: bool, n: u64, twos: usize, out: &mut [u8], at: usize) -> usize
+pub(crate) fn put_large(negative: bool, n: u64, twos: usize, w: &mut Writer)
     requires n_bound { n < 2 ^ 63 }
     requires twos_bound { twos ≤ 975 }
-    requires twos_in_bounds { at + length (signed_decimals negative (n * 2 ^ twos)) ≤ length out.old }
-    ensures { Wrote out.old out.new at (signed_decimals negative (n * 2 ^ twos)) result }
+    requires room { HasRoom w.old (signed_decimals negative (n * 2 ^ twos)) }
+    ensures { Puts w.old w.new (signed_decimals negative (n * 2 ^ twos)) }
 {
     let mut space = [b'0'; 347];
     let count = digits_enough(twos);
-    put_by_digits(negative, n, twos, &mut space[..count], out, at)
+    put_by_digits(negative, n, twos, &mut space[..count], w);
 }
 
 fn size_by_digits(n: u64, twos: usize, space: &mut [u8]) -> usize

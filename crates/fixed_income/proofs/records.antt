@@ -1,5 +1,4 @@
 pub mod Later
 pub mod Records
-pub mod Walked
 pub mod OneOutcome
 pub mod Examples

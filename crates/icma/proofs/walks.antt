@@ -1,3 +1,4 @@
+pub mod Ways
 pub mod Walking
 pub mod Laws
 pub mod Skips

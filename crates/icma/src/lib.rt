@@ -4,7 +4,7 @@
 pub mod parts;
 pub mod walks;
 
-pub use parts::{Broken, Parts, PartsAnswer};
+pub use parts::{Part, Parts};
 
 // Inner: for the crates of the register, which have judged what these ask for.
 pub use parts::icma_parts;

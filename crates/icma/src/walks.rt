@@ -1,13 +1,21 @@
 // The walks of Act/Act ICMA: by a period, on or back to a limit, and from the roll date to where
 // the parts are counted from.
-ghost use Rattle.std.specs.Prelude.{◌≡◌, true, ◌+◌, ◌<◌, ◌≤◌, pos};
-ghost use Rattle.std.specs.Int.Signed.{lt_z};
-ghost use Rattle.calendar.specs.dates.Dates.{is_date, is_before, day_number, month_index, month_date};
-ghost use Rattle.icma.specs.walks.Walks.{walk_outcome, walk, turn_on, turn_back, base_from};
-ghost use Rattle.icma.specs.walks.Skips.{is_uncut, leap_on, leap_back};
+ghost use Rattle.std.specs.Prelude.{◌≡◌, true, ◌+◌, ◌<◌, ◌≤◌};
+ghost use Rattle.outcome.specs.Refusals.{outcome_of};
+ghost use Rattle.calendar.specs.dates.Dates.{is_date, day_number, month_index, month_date};
+ghost use Rattle.icma.specs.walks.Walks.{walk, base_from};
+ghost use Rattle.icma.specs.walks.Ways.{is_past, leads, left, turned, walk_from};
+ghost use Rattle.icma.specs.walks.Skips.{gap, moved, is_uncut, leap};
 
-use calendar::{Date, DateAnswer};
-use time_period::{TimePeriod, TimePeriodUnit};
+use calendar::Date;
+use day_fraction::DateSpan;
+use outcome::{Refusal, magnitude};
+use time_period::{TimePeriod, TimePeriodUnit, step};
+
+// The two ways of a walk: on by a period above 0, back by one below 0.
+pub(crate) const ON: bool = true;
+
+pub(crate) const BACK: bool = false;
 
 // Where a walk stands, and how many of the dates it reached count.
 #[derive(Clone, Copy)]
@@ -16,64 +24,34 @@ pub(crate) struct Walked {
     pub count: u32,
 }
 
-#[derive(Clone, Copy)]
-pub(crate) enum WalkAnswer {
-    Walked(Walked),
-    Refused(u32),
+// Whether a date is past a limit on the way.
+#[tactic(auto, unfolding(calendar::specs::dates::Dates::is_before))]
+pub(crate) fn is_past<const WAY: bool>(t: Date, limit: Date) -> bool
+    ensures { result ≡ is_past WAY t limit }
+{
+    if WAY { limit < t } else { t < limit }
 }
 
-// One step on; the date reached counts unless it is past the limit.
-fn turn_on(p: TimePeriod, w: Walked, limit: Date) -> WalkAnswer
+// One step; the date reached counts unless it is past the limit.
+fn turn<const WAY: bool>(p: TimePeriod, w: Walked, limit: Date) -> Result<Walked, Refusal>
     requires { (is_date w.at ≡ true) × (w.count < 3652060) }
-    ensures { walk_outcome result ≡ turn_on p limit w }
+    ensures { outcome_of result ≡ turned WAY p limit w }
 {
-    let n = w.count;
-    match time_period::step(p, w.at) {
-        DateAnswer::Date(u) => {
-            if calendar::is_before(limit, u) {
-                return WalkAnswer::Walked(Walked { at: u, count: n });
-            }
-            WalkAnswer::Walked(Walked {
-                at: u,
-                count: n + 1,
-            })
-        }
-        DateAnswer::Refused(k) => WalkAnswer::Refused(k),
+    let at = step(p, w.at)?;
+    if is_past::<WAY>(at, limit) {
+        return Ok(Walked { at, count: w.count });
     }
-}
-
-// One step back, by the negated period; the date reached counts unless it is before the limit.
-fn turn_back(q: TimePeriod, w: Walked, limit: Date) -> WalkAnswer
-    requires { (is_date w.at ≡ true) × (w.count < 3652060) }
-    ensures { walk_outcome result ≡ turn_back q limit w }
-{
-    let n = w.count;
-    match time_period::step(q, w.at) {
-        DateAnswer::Date(u) => {
-            if calendar::is_before(u, limit) {
-                return WalkAnswer::Walked(Walked { at: u, count: n });
-            }
-            WalkAnswer::Walked(Walked {
-                at: u,
-                count: n + 1,
-            })
-        }
-        DateAnswer::Refused(k) => WalkAnswer::Refused(k),
-    }
+    Ok(Walked {
+        at,
+        count: w.count + 1,
+    })
 }
 
 // Whether no step of a period cuts the day: months, from a day that every month has.
 fn is_uncut(p: TimePeriod, t: Date) -> bool
     ensures { result ≡ is_uncut p t }
 {
-    let unit = p.unit;
-    match unit {
-        TimePeriodUnit::Daily => false,
-        TimePeriodUnit::BusinessDaily => false,
-        TimePeriodUnit::Weekly => false,
-        TimePeriodUnit::Monthly => t.day <= 28,
-        TimePeriodUnit::Annual => false,
-    }
+    p.unit == TimePeriodUnit::Monthly && t.day <= 28
 }
 
 // The number of a date's month, counted from January of year 1.
@@ -94,93 +72,84 @@ fn uncut_date(index: u32, day: u32) -> Date
     Date { year, month, day }
 }
 
-// Many steps at once, up to the last that leads to an earlier month than the limit's: each of their
+// The months from one to another that lies on the way, and else 0.
+fn gap<const WAY: bool>(from: u32, to: u32) -> u32
+    ensures { result ≡ gap WAY from to }
+{
+    if WAY {
+        to.saturating_sub(from)
+    } else {
+        from.saturating_sub(to)
+    }
+}
+
+// So many months along the way, fewer than lie between the two.
+fn moved<const WAY: bool>(from: u32, to: u32, months: u32) -> u32
+    requires { (months < gap WAY from to) × (from ≤ 119987) × (to ≤ 119987) }
+    ensures { (result ≡ moved WAY from months) × (result ≤ 119987) }
+{
+    if WAY { from + months } else { from - months }
+}
+
+// Many steps at once, up to the last that leads to a month short of the limit's: each of their
 // dates counts.
-fn skip_on(p: TimePeriod, from: Date, limit: Date) -> Walked
-    requires { (is_date from ≡ true) × (is_date limit ≡ true) × (lt_z (pos 0) p.num ≡ true) }
-    ensures { result ≡ leap_on p limit from }
+fn skip<const WAY: bool>(p: TimePeriod, from: Date, limit: Date) -> Walked
+    requires { (is_date from ≡ true) × (is_date limit ≡ true) × (leads WAY p.num ≡ true) }
+    ensures { result ≡ leap WAY p limit from }
 {
     if !is_uncut(p, from) {
         return Walked { at: from, count: 0 };
     }
     let here = month_index(from);
     let there = month_index(limit);
-    if there <= here {
+    let gap = gap::<WAY>(here, there);
+    if gap == 0 {
         return Walked { at: from, count: 0 };
     }
-    let months = outcome::magnitude(p.num);
-    let count = (there - here - 1) / months;
-    let at = uncut_date(here + count * months, from.day);
-    Walked { at, count }
+    let months = magnitude(p.num);
+    let count = (gap - 1) / months;
+    let index = moved::<WAY>(here, there, count * months);
+    Walked {
+        at: uncut_date(index, from.day),
+        count,
+    }
 }
 
-// Back the same way, up to the last that leads to a later month than the limit's.
-fn skip_back(q: TimePeriod, from: Date, limit: Date) -> Walked
-    requires { (is_date from ≡ true) × (is_date limit ≡ true) × (lt_z q.num (pos 0) ≡ true) }
-    ensures { result ≡ leap_back q limit from }
-{
-    if !is_uncut(q, from) {
-        return Walked { at: from, count: 0 };
-    }
-    let here = month_index(from);
-    let there = month_index(limit);
-    if here <= there {
-        return Walked { at: from, count: 0 };
-    }
-    let months = outcome::magnitude(q.num);
-    let count = (here - there - 1) / months;
-    let at = uncut_date(here - count * months, from.day);
-    Walked { at, count }
-}
-
-// Inner: on until not before the limit; asks for a period above 0 and a count up to its day.
-pub(crate) fn walk_on(p: TimePeriod, from: Walked, limit: Date) -> WalkAnswer
-    requires { (is_date from.at ≡ true) × (from.count ≤ day_number from.at) × (lt_z (pos 0) p.num ≡ true) }
-    ensures { walk_outcome result ≡ walk 3652060 (λ u. is_before u limit) (turn_on p limit) from }
+// Inner: on or back until the limit is not ahead; asks for a period of that way and a count up to
+// the days behind.
+pub(crate) fn walk<const WAY: bool>(
+    p: TimePeriod,
+    from: Walked,
+    limit: Date,
+) -> Result<Walked, Refusal>
+    requires { (is_date from.at ≡ true) × (from.count + left WAY from.at ≤ 3652059) × (leads WAY p.num ≡ true) }
+    ensures { outcome_of result ≡ walk 3652060 (λ u. is_past WAY limit u) (turned WAY p limit) from }
 {
     let mut w = from;
-    while calendar::is_before(w.at, limit) {
-        match turn_on(p, w, limit) {
-            WalkAnswer::Walked(v) => {
-                w = v;
-            }
-            WalkAnswer::Refused(k) => return WalkAnswer::Refused(k),
-        }
+    while is_past::<WAY>(limit, w.at) {
+        w = turn::<WAY>(p, w, limit)?;
     }
-    WalkAnswer::Walked(w)
+    Ok(w)
 }
 
-// Inner: back until not after the limit; asks for a period below 0 and a count up to the days left.
-pub(crate) fn walk_back(q: TimePeriod, from: Walked, limit: Date) -> WalkAnswer
-    requires { (is_date from.at ≡ true) × (from.count + day_number from.at ≤ 3652059) × (lt_z q.num (pos 0) ≡ true) }
-    ensures { walk_outcome result ≡ walk 3652060 (λ u. is_before limit u) (turn_back q limit) from }
+// The same from a date that may lie far from the limit, so that the walk leaps first.
+fn walk_far<const WAY: bool>(p: TimePeriod, t: Date, limit: Date) -> Result<Walked, Refusal>
+    requires { (is_date t ≡ true) × (is_date limit ≡ true) × (leads WAY p.num ≡ true) }
+    ensures { outcome_of result ≡ walk_from WAY p limit t }
 {
-    let mut w = from;
-    while calendar::is_before(limit, w.at) {
-        match turn_back(q, w, limit) {
-            WalkAnswer::Walked(v) => {
-                w = v;
-            }
-            WalkAnswer::Refused(k) => return WalkAnswer::Refused(k),
-        }
-    }
-    WalkAnswer::Walked(w)
+    walk::<WAY>(p, skip::<WAY>(p, t, limit), limit)
 }
 
-// Inner: from the roll date on to start, then back to end; asks for dates that exist.
+// Inner: from the roll date on to start, then back to end; asks for a roll date that exists.
 pub(crate) fn base_from(
     p: TimePeriod,
     q: TimePeriod,
-    start: Date,
-    end: Date,
+    span: DateSpan,
     roll: Date,
-) -> WalkAnswer
-    requires { (is_date start ≡ true) × (is_date end ≡ true) × (is_date roll ≡ true) × (lt_z (pos 0) p.num ≡ true) × (lt_z q.num (pos 0) ≡ true) }
-    ensures { walk_outcome result ≡ base_from p q start end roll }
+) -> Result<Walked, Refusal>
+    requires { (is_date roll ≡ true) × (leads ON p.num ≡ true) × (leads BACK q.num ≡ true) }
+    ensures { outcome_of result ≡ base_from p q span.start span.end roll }
 {
-    // The roll date may lie far from both, so that these walks leap first.
-    match walk_on(p, skip_on(p, roll, start), start) {
-        WalkAnswer::Walked(a) => walk_back(q, skip_back(q, a.at, end), end),
-        WalkAnswer::Refused(k) => WalkAnswer::Refused(k),
-    }
+    let a = walk_far::<ON>(p, roll, span.start)?;
+    walk_far::<BACK>(q, a.at, span.end)
 }

@@ -1,4 +1,3 @@
 pub mod Flows
 pub mod Dues
 pub mod Collecting
-pub mod Judging

@@ -1,39 +1,46 @@
 // A note's flows one at a time, each on its payment date, and the pass that counts and keeps them
 // all.
 ghost use Rattle.std.specs.Prelude.{◌≡◌, true, set};
+ghost use Rattle.outcome.specs.Outcome.{and_then};
+ghost use Rattle.outcome.specs.Refusals.{outcome_of};
 ghost use Rattle.outcome.specs.Room.{counted};
 ghost use Rattle.calendar.specs.dates.Dates.{is_date, day_number};
-ghost use Rattle.business_days.specs.table.Table.{ascending};
-ghost use Rattle.cash_flow.specs.flow.Flows.{flows_outcome};
-ghost use Rattle.note_flows.specs.schedule.Schedule.{Dated};
-ghost use Rattle.note_flows.specs.flows.NoteFlows.{paid, note_flows};
-ghost use Rattle.note_flows.specs.flows.Turns.{JudgedNote, step_of, next_step, Kept};
+ghost use Rattle.note_flows.specs.schedule.Schedule.{is_accepted, is_dated};
+ghost use Rattle.note_flows.specs.flows.NoteFlows.{cash_flows, flow_day, amount_of};
 
-use crate::schedule::{Due, Payment};
+use crate::schedule::Due;
 use bond::Note;
-use calendar::{Date, DateAnswer};
-use cash_flow::{CashFlow, FlowsAnswer};
+use business_days::{Holidays, Spot};
+use calendar::Date;
+use cash_flow::CashFlow;
+use day_adjust::DateSpot;
+use outcome::Refusal;
 
 // How many flows a first pass keeps for a second: 21 years of months. There is no heap, and more
 // would cost a short note too much to clear.
 pub const KEPT: usize = 256;
 
-// A hint past every table: the first payment's place is searched for.
-const NO_HINT: usize = 4097;
+// A place past every table: the first payment's is searched for.
+const NO_PLACE: usize = 4097;
 
-// One step: a flow's serial day and the flow with what is due after it, a refusal, or the end.
+// A flow, and the serial day that it is paid on.
 #[derive(Clone, Copy)]
-pub enum Step {
-    Pay(u32, CashFlow, Due),
-    Stop(u32),
-    End,
+pub(crate) struct Paid {
+    pub day: u32,
+    pub flow: CashFlow,
 }
 
-// A step, and the place of its date among the holidays.
+// The flows of a note that passed its checks: what is due, and the last payment's place among the
+// holidays.
 #[derive(Clone, Copy)]
-pub(crate) struct HintedStep {
-    pub step: Step,
-    pub hint: usize,
+pub struct NoteFlows<'a> {
+    note: Note,
+    position: f64,
+    holidays: Holidays<'a>,
+    place: usize,
+    due: Due,
+    ghost accepted: { is_accepted note ≡ true },
+    ghost dated: { is_dated due ≡ true },
 }
 
 // The serial day of a date, of which another's is known: a date that did not move keeps its day.
@@ -41,118 +48,91 @@ fn day_from(u: Date, t: Date, n: u32) -> u32
     requires { (is_date u ≡ true) × (n ≡ day_number t) }
     ensures { result ≡ day_number u }
 {
-    if calendar::is_same(u, t) {
-        n
-    } else {
-        calendar::day_of_date(u)
+    if u == t { n } else { calendar::day_of_date(u) }
+}
+
+// Keeps a value at a place where there is one.
+fn keep<T: Copy>(places: &mut [T], k: usize, x: T)
+    ensures { places.new ≡ set places.old k x }
+{
+    if k < places.len() {
+        places[k] = x;
     }
 }
 
-// An amount on the adjusted date.
-fn pay(note: Note, table: &[u32], hint: usize, t: Date, amount: f64, next: Due) -> HintedStep
-    requires { (is_date t ≡ true) × (ascending table.now ≡ true) }
-    ensures { result.step ≡ step_of (paid note table.now t amount) next }
-{
-    let rule = note.business_day_rule;
-    let n = calendar::day_of_date(t);
-    let i = business_days::lower_bound_from(table, n, hint);
-    match day_adjust::adjust_at(rule, t, n, table, i) {
-        DateAnswer::Date(u) => {
-            let currency = note.currency;
-            let flow = CashFlow {
-                date: u,
-                currency,
-                amount,
-            };
-            let day = day_from(u, t, n);
-            let step = Step::Pay(day, flow, next);
-            HintedStep { step, hint: i }
-        }
-        DateAnswer::Refused(k) => {
-            let step = Step::Stop(k);
-            HintedStep { step, hint: i }
-        }
+impl<'a> NoteFlows<'a> {
+    ghost use Rattle.note_flows.specs.flows.Turns.{left, Turned, Kept};
+
+    // Inner: all flows of a note, or the refusal of its checks.
+    pub fn new(note: Note, position: f64, table: &'a [u32]) -> Result<NoteFlows<'a>, Refusal>
+        ensures { and_then (outcome_of result) left ≡ cash_flows note position table.now }
+    {
+        let position_in = bond::is_position(position);
+        let table_taken = business_days::is_table(table);
+        bond::check_note_with(note, position_in, table_taken)?;
+        Ok(NoteFlows {
+            note,
+            position,
+            holidays: Holidays { days: table },
+            place: NO_PLACE,
+            due: Due::First,
+        })
     }
-}
 
-// One step of a note, a position and a table already judged, from a place of the table that may be
-// near its date's.
-fn next_flow_near(note: Note, position: f64, table: &[u32], hint: usize, due: Due) -> HintedStep
-    requires { (JudgedNote note position table.now) × (Dated due) }
-    ensures { result.step ≡ next_step note position table.now due }
-{
-    match crate::schedule::payment_for(note, position, crate::schedule::next_event(note, due)) {
-        Payment::Pay(t, amount, next) => pay(note, table, hint, t, amount, next),
-        Payment::Stop(k) => {
-            let step = Step::Stop(k);
-            HintedStep { step, hint }
-        }
-        Payment::End => {
-            let step = Step::End;
-            HintedStep { step, hint }
-        }
+    // The next flow, the refusal that stands in its place, or none behind the last.
+    #[tactic(auto, using(crate::proofs::flows::Dues::owing))]
+    fn next(&mut self) -> Result<Option<Paid>, Refusal>
+        ensures { Turned self.old self.new (outcome_of result) }
+    {
+        let Some(payment) = crate::schedule::owed(self.note, self.position, self.due)? else {
+            return Ok(None);
+        };
+        let rule = self.note.business_day_rule;
+        let n = calendar::day_of_date(payment.date);
+        let spot = Spot::near(n, self.holidays, self.place);
+        self.place = spot.place;
+        let unadjusted = DateSpot {
+            date: payment.date,
+            spot,
+        };
+        let date = unadjusted.adjusted(rule)?;
+        self.due = payment.next;
+        Ok(Some(Paid {
+            day: day_from(date, payment.date, n),
+            flow: CashFlow {
+                date,
+                currency: self.note.currency,
+                amount: payment.amount,
+            },
+        }))
     }
-}
 
-// Inner: one step of a note; asks for a checked note, position and table, and a date that exists.
-pub fn next_flow(note: Note, position: f64, table: &[u32], due: Due) -> Step
-    requires { (JudgedNote note position table.now) × (Dated due) }
-    ensures { result ≡ next_step note position table.now due }
-{
-    let taken = next_flow_near(note, position, table, NO_HINT, due);
-    taken.step
-}
-
-// Keeps a day, or an amount, at a place where there is one.
-fn keep_day(days: &mut [u32], k: usize, day: u32)
-    ensures { days.new ≡ set days.old k day }
-{
-    if k < days.len() {
-        days[k] = day;
-    }
-}
-
-fn keep_amount(amounts: &mut [f64], k: usize, amount: f64)
-    ensures { amounts.new ≡ set amounts.old k amount }
-{
-    if k < amounts.len() {
-        amounts[k] = amount;
-    }
-}
-
-// Inner: how many flows a note has, or its refusal; asks for a checked note, position and table.
-pub fn collect(
-    note: Note,
-    position: f64,
-    table: &[u32],
-    days: &mut [u32],
-    amounts: &mut [f64],
-) -> FlowsAnswer
-    requires { JudgedNote note position table.now }
-    ensures outcome { flows_outcome result ≡ counted (note_flows note position table.now) }
-    ensures kept { Kept note position table.now days.old amounts.old days.new amounts.new }
-{
-    // Days and amounts are kept, where there are places for all.
-    let mut k: usize = 0;
-    let mut hint = NO_HINT;
-    let mut due = Due::First;
-    loop {
-        let taken = next_flow_near(note, position, table, hint, due);
-        hint = taken.hint;
-        let step = taken.step;
-        match step {
-            Step::Pay(day, flow, next) => {
-                keep_day(days, k, day);
-                keep_amount(amounts, k, flow.amount);
-                due = next;
-                k += 1;
-            }
-            Step::Stop(n) => {
-                return FlowsAnswer::Refused(n);
-            }
-            Step::End => {
-                return FlowsAnswer::Flows(k);
-            }
+    // Inner: how many flows are left, or their refusal; their days and amounts are kept in lists that
+    // have places for all.
+    pub fn collect(mut self, days: &mut [u32], amounts: &mut [f64]) -> Result<usize, Refusal>
+        ensures outcome { outcome_of result ≡ counted (left self.entry) }
+        ensures days_kept { Kept flow_day (left self.entry) days.old days.new }
+        ensures amounts_kept { Kept amount_of (left self.entry) amounts.old amounts.new }
+    {
+        let mut count: usize = 0;
+        while let Some(paid) = self.next()? {
+            keep(days, count, paid.day);
+            keep(amounts, count, paid.flow.amount);
+            count += 1;
         }
+        Ok(count)
+    }
+
+    // Inner: the same, with the flows themselves.
+    pub fn collect_records(mut self, room: &mut [CashFlow]) -> Result<usize, Refusal>
+        ensures outcome { outcome_of result ≡ counted (left self.entry) }
+        ensures kept { Kept (λ x. x) (left self.entry) room.old room.new }
+    {
+        let mut k: usize = 0;
+        while let Some(paid) = self.next()? {
+            keep(room, k, paid.flow);
+            k += 1;
+        }
+        Ok(k)
     }
 }

@@ -4,8 +4,5 @@
 pub mod flows;
 pub mod schedule;
 
-pub use flows::{KEPT, Step};
-pub use schedule::Due;
-
-// Inner: for the crates of the register, which have judged what these ask for.
-pub use flows::{collect, next_flow};
+// Inner: for the crates of the register; only `NoteFlows::new` judges.
+pub use flows::{KEPT, NoteFlows};

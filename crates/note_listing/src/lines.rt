@@ -1,11 +1,12 @@
-// Flows as lines of text: measured first, and written only where all of them have room.
-ghost use Rattle.std.specs.Prelude.{◌≡◌, ◌≤◌, length};
-ghost use Rattle.number_text.specs.write.Writing.{put, Wrote, Takes};
+// Flows as lines of text: measured first, and then written where they have room.
+ghost use Rattle.std.specs.Prelude.{◌≡◌, ◌≤◌, length, IfOk};
+ghost use Rattle.number_text.specs.write.Writing.{Puts, Takes};
 ghost use Rattle.note_listing.specs.lines.Lines.{line_shown, lines_of};
-ghost use Rattle.note_listing.specs.lines.Inner.{flow_on, flows_shown, AtMost, text_of, LineFits, LinesWritten};
+ghost use Rattle.note_listing.specs.lines.Inner.{flow_on, flows_shown, text_of, LineFits};
 
 use cash_flow::{CashFlow, Currency};
-use number_text::LengthAnswer;
+use number_text::Writer;
+use outcome::Refusal;
 
 fn flow_on(currency: Currency, day: u32, amount: f64) -> CashFlow
     ensures { result ≡ flow_on currency day amount }
@@ -18,76 +19,44 @@ fn flow_on(currency: Currency, day: u32, amount: f64) -> CashFlow
 }
 
 // How many bytes a line takes.
-fn line_length(currency: Currency, day: u32, amount: f64) -> LengthAnswer
-    ensures { (Takes (line_shown (flow_on currency day amount)) result) × (AtMost 331 result) }
+fn line_length(flow: CashFlow) -> Result<usize, Refusal>
+    ensures takes { Takes (line_shown flow) result }
+    ensures short { IfOk result (λ k. k ≤ 331) }
 {
-    match flow_text::cash_flow_length(flow_on(currency, day, amount)) {
-        LengthAnswer::Length(k) => LengthAnswer::Length(k + 1),
-        LengthAnswer::Refused(n) => LengthAnswer::Refused(n),
-    }
+    Ok(flow_text::cash_flow_length(flow)? + 1)
 }
 
-// How many bytes all lines take, or the first refusal.
-fn lines_length(currency: Currency, days: &[u32], amounts: &[f64]) -> LengthAnswer
-    requires { (length days.now ≤ 2000) × (length days.now ≤ length amounts.now) }
-    ensures { (Takes (lines_of (flows_shown currency days.now amounts.now)) result) × (AtMost 662000 result) }
-{
-    let mut total: usize = 0;
-    let mut i: usize = 0;
-    while i < days.len() {
-        match line_length(currency, days[i], amounts[i]) {
-            LengthAnswer::Length(k) => {
-                total += k;
-                i += 1;
-            }
-            LengthAnswer::Refused(n) => {
-                return LengthAnswer::Refused(n);
-            }
-        }
-    }
-    LengthAnswer::Length(total)
-}
-
-fn put_line(currency: Currency, day: u32, amount: f64, out: &mut [u8], at: usize) -> usize
-    requires { LineFits (line_shown (flow_on currency day amount)) (length out.old) at }
-    ensures { Wrote out.old out.new at (text_of (line_shown (flow_on currency day amount))) result }
-{
-    let end = flow_text::put_cash_flow_at(flow_on(currency, day, amount), out, at);
-    out[end] = b'\n';
-    end + 1
-}
-
-fn put_lines(currency: Currency, days: &[u32], amounts: &[f64], out: &mut [u8])
-    requires days_in_bounds { length days.now ≤ length amounts.now }
-    requires line_fits { LineFits (lines_of (flows_shown currency days.now amounts.now)) (length out.old) 0 }
-    ensures { out.new ≡ put out.old 0 (text_of (lines_of (flows_shown currency days.now amounts.now))) }
-{
-    let mut at: usize = 0;
-    let mut i: usize = 0;
-    while i < days.len() {
-        at = put_line(currency, days[i], amounts[i], out, at);
-        i += 1;
-    }
-}
-
-// Inner: all lines, or the first refusal; asks for at most 2,000 days and an amount for each.
-pub(crate) fn list_lines(
+// Inner: how many bytes all lines take, or the first refusal; asks for at most 2,000 days.
+pub(crate) fn lines_length(
     currency: Currency,
     days: &[u32],
     amounts: &[f64],
-    out: &mut [u8],
-) -> LengthAnswer
-    requires { (length days.now ≤ 2000) × (length days.now ≤ length amounts.now) }
-    ensures { LinesWritten (lines_of (flows_shown currency days.now amounts.now)) out.old out.new result }
+) -> Result<usize, Refusal>
+    requires { length days.now ≤ 2000 }
+    ensures takes { Takes (lines_of (flows_shown currency days.now amounts.now)) result }
+    ensures short { IfOk result (λ k. k ≤ 662000) }
 {
-    match lines_length(currency, days, amounts) {
-        LengthAnswer::Length(k) => {
-            if out.len() < k {
-                return LengthAnswer::Refused(outcome::TOO_FEW_PLACES);
-            }
-            put_lines(currency, days, amounts, out);
-            LengthAnswer::Length(k)
-        }
-        LengthAnswer::Refused(n) => flow_text::write_refusal(n, out),
+    let mut total: usize = 0;
+    for (day, amount) in days.iter().zip(amounts) {
+        total += line_length(flow_on(currency, *day, *amount))?;
+    }
+    Ok(total)
+}
+
+fn put_line(flow: CashFlow, w: &mut Writer)
+    requires { LineFits (line_shown flow) (length w.old.out.now) w.old.at }
+    ensures { Puts w.old w.new (text_of (line_shown flow)) }
+{
+    flow_text::put_cash_flow_at(flow, w);
+    w.put(b'\n');
+}
+
+// Inner: all lines; asks for room.
+pub(crate) fn put_lines(currency: Currency, days: &[u32], amounts: &[f64], w: &mut Writer)
+    requires { LineFits (lines_of (flows_shown currency days.now amounts.now)) (length w.old.out.now) w.old.at }
+    ensures { Puts w.old w.new (text_of (lines_of (flows_shown currency days.now amounts.now))) }
+{
+    for (day, amount) in days.iter().zip(amounts) {
+        put_line(flow_on(currency, *day, *amount), w);
     }
 }

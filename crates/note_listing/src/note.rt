@@ -1,40 +1,59 @@
 // The list on the desk: from the bytes of a packed note to its flows as lines, or to its refusal.
-ghost use Rattle.std.specs.Prelude.{◌≤◌, length};
-ghost use Rattle.note_listing.specs.lines.Inner.{LinesWritten};
-ghost use Rattle.note_listing.specs.note.Listing.{note_lines, listing, ListPromise};
-ghost use Rattle.note_listing.specs.note.Inner.{with_days};
+ghost use Rattle.std.specs.Prelude.{◌≡◌, ◌≤◌, length};
+ghost use Rattle.outcome.specs.Refusals.{outcome_of};
+ghost use Rattle.note_listing.specs.note.Listing.{listing, ListPromise};
+ghost use Rattle.note_listing.specs.note.Inner.{Measures};
 
-use bond::Note;
-use cash_flow::FlowsAnswer;
-use number_text::LengthAnswer;
-use packed_read::PackedAnswer;
+use cash_flow::Currency;
+use number_text::Writer;
+use outcome::Refusal;
 
-// The lines of a note and its holidays, or a refusal.
-fn list_flows(note: Note, table: &[u32], out: &mut [u8]) -> LengthAnswer
-    ensures { LinesWritten (note_lines (with_days note table.now)) out.old out.new result }
+// A list, measured: the currency of its flows, how many they are, and how many bytes their lines
+// take.
+#[derive(Clone, Copy)]
+struct Measure {
+    currency: Currency,
+    flows: usize,
+    bytes: usize,
+}
+
+// The flows of a packed note in front of two lists, and the measure of their list.
+fn measured(s: &[u8], days: &mut [u32], amounts: &mut [f64]) -> Result<Measure, Refusal>
+    requires { (length days.old ≡ 2000) × (length amounts.old ≡ 2000) }
+    ensures { Measures s.now days.new amounts.new (outcome_of result) }
 {
-    let mut days = [0u32; 2000];
-    let mut amounts = [0.0f64; 2000];
-    match rollout::rollout_flows(note, 1.0, table, &mut days, &mut amounts) {
-        FlowsAnswer::Flows(n) => {
-            let currency = note.currency;
-            crate::lines::list_lines(currency, &days[..n], &amounts[..n], out)
-        }
-        FlowsAnswer::Refused(k) => flow_text::write_refusal(k, out),
-    }
+    let mut table = [0u32; 4096];
+    let packed = packed_read::read_note(s, &mut table)?;
+    let note = packed.note;
+    let currency = note.currency;
+    let holidays = &table[..packed.holidays];
+    let flows = rollout::rollout_flows(note, 1.0, holidays, days, amounts)?;
+    let bytes = crate::lines::lines_length(currency, &days[..flows], &amounts[..flows])?;
+    Ok(Measure {
+        currency,
+        flows,
+        bytes,
+    })
 }
 
 // The listing of a packed note in lent bytes, its flows or `refused N`, at most 662,000 bytes;
 // refused 16.
-pub fn list_note(s: &[u8], out: &mut [u8]) -> LengthAnswer
+pub fn list_note(s: &[u8], out: &mut [u8]) -> Result<usize, Refusal>
     ensures { (ListPromise s.now out.old out.new result) × (length (listing s.now) ≤ 662000) }
 {
-    let mut table = [0u32; 4096];
-    match packed_read::read_note(s, &mut table) {
-        PackedAnswer::Packed(p) => {
-            let note = p.note;
-            list_flows(note, &table[..p.holidays], out)
+    let mut days = [0u32; 2000];
+    let mut amounts = [0.0f64; 2000];
+    match measured(s, &mut days, &mut amounts) {
+        Ok(list) => {
+            if out.len() < list.bytes {
+                return Err(Refusal::TooFewPlaces);
+            }
+            let n = list.flows;
+            let mut w = Writer::new(out);
+            crate::lines::put_lines(list.currency, &days[..n], &amounts[..n], &mut w);
+            Ok(list.bytes)
         }
-        PackedAnswer::Refused(n) => flow_text::write_refusal(n, out),
+        // It is written, and not handed on, so that no `?` fits.
+        Err(refusal) => flow_text::write_refusal(refusal, out),
     }
 }

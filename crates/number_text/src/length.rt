@@ -7,8 +7,9 @@ pub fn decimal_length(n: u64) -> usize
 {
     let mut k: usize = 1;
     let mut rest = n;
+    // Digit by digit: a number is no list that an iterator could pass.
     while 10 <= rest {
-        rest = rest / 10;
+        rest /= 10;
         k += 1;
     }
     k
@@ -18,14 +19,12 @@ pub fn decimal_length(n: u64) -> usize
 pub fn padded_length(n: u64, width: usize) -> usize
     ensures { TakesPadded width n result }
 {
-    let k = decimal_length(n);
-    if k < width { width } else { k }
+    decimal_length(n).max(width)
 }
 
 // How many bytes the shortest decimal of a signed number takes.
 pub fn signed_length(n: i32) -> usize
     ensures { TakesSigned n result }
 {
-    let k = decimal_length(outcome::magnitude(n) as u64);
-    if n < 0 { k + 1 } else { k }
+    usize::from(n < 0) + decimal_length(u64::from(outcome::magnitude(n)))
 }

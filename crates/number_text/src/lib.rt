@@ -6,9 +6,8 @@ pub mod read;
 pub mod write;
 
 pub use length::{decimal_length, padded_length, signed_length};
-pub use read::{NumberAnswer, SignedAnswer};
-pub use write::{LengthAnswer, write_i32, write_padded, write_u32};
+pub use write::{write_i32, write_padded, write_u32};
 
 // Inner: for the crates of the register, which have judged what these ask for.
 pub use read::{read_decimal, read_i32, read_u32};
-pub use write::{put_bytes, put_decimal, put_digits, put_padded, put_run, put_sign, put_signed};
+pub use write::Writer;

@@ -1,118 +1,134 @@
 // Numbers as text, as Rust's `Display` of integers, over bytes.
-ghost use Rattle.std.specs.Prelude.{◌+◌, ◌≤◌, length, replicate};
-ghost use Rattle.number_text.specs.write.Writing.{digits, decimal_text, padded_text, sign_text, signed_text, Wrote, Written, length_outcome};
+ghost use Rattle.std.specs.Prelude.{◌≡◌, [], ◌∷◌, replicate};
+ghost use Rattle.outcome.specs.Refusals.{outcome_of};
+ghost use Rattle.number_text.specs.write.Writing.{digits, decimal_text, padded_text, sign_text, signed_text, HasRoom, Puts, Written};
 
 use crate::length::{decimal_length, padded_length, signed_length};
+use outcome::Refusal;
 
-#[derive(Clone, Copy)]
-pub enum LengthAnswer {
-    Length(usize),
-    Refused(u32),
+// Lent bytes, and the place where the next byte goes.
+#[derive(Drop)]
+pub struct Writer<'a> {
+    pub out: &'a mut [u8],
+    pub at: usize,
 }
 
-// Inner: the last `count` decimal digits of n at a place; asks for room.
-pub fn put_digits(n: u64, count: usize, out: &mut [u8], at: usize) -> usize
-    requires { at + count ≤ length out.old }
-    ensures { Wrote out.old out.new at (digits count n) result }
-{
-    let mut i = count;
-    let mut rest = n;
-    while 0 < i {
-        i -= 1;
-        out[at + i] = b'0' + (rest % 10) as u8;
-        rest = rest / 10;
+// Inner: each method that writes asks for room.
+impl<'a> Writer<'a> {
+    // It begins at the first byte.
+    pub fn new(out: &'a mut [u8]) -> Writer<'a>
+        ensures same_bytes { result.out.ghost_name ≡ out.entry.ghost_name }
+        ensures bytes { result.out.now ≡ out.old }
+        ensures at { result.at ≡ 0 }
+    {
+        Writer { out, at: 0 }
     }
-    at + count
-}
 
-// Inner: one byte, `count` times, at a place; asks for room.
-pub fn put_run(b: u8, count: usize, out: &mut [u8], at: usize) -> usize
-    requires { at + count ≤ length out.old }
-    ensures { Wrote out.old out.new at (replicate count b) result }
-{
-    let mut i = count;
-    while 0 < i {
-        i -= 1;
-        out[at + i] = b;
+    pub fn put(&mut self, b: u8)
+        requires { HasRoom self.old (b ∷ []) }
+        ensures { Puts self.old self.new (b ∷ []) }
+    {
+        self.out[self.at] = b;
+        self.at += 1;
     }
-    at + count
-}
 
-// Inner: the bytes of s at a place; asks for room.
-pub fn put_bytes(s: &[u8], out: &mut [u8], at: usize) -> usize
-    requires { at + length s.now ≤ length out.old }
-    ensures { Wrote out.old out.new at s.now result }
-{
-    let mut i = s.len();
-    while 0 < i {
-        i -= 1;
-        out[at + i] = s[i];
+    // One byte, `count` times.
+    pub fn put_run(&mut self, b: u8, count: usize)
+        requires { HasRoom self.old (replicate count b) }
+        ensures { Puts self.old self.new (replicate count b) }
+    {
+        self.out[self.at..self.at + count].fill(b);
+        self.at += count;
     }
-    at + s.len()
-}
 
-// Inner: a `-` at a place, where the number is negative; asks for room.
-pub fn put_sign(negative: bool, out: &mut [u8], at: usize) -> usize
-    requires { at + length (sign_text negative) ≤ length out.old }
-    ensures { Wrote out.old out.new at (sign_text negative) result }
-{
-    if negative {
-        out[at] = b'-';
-        at + 1
-    } else {
-        at
+    pub fn put_bytes(&mut self, s: &[u8])
+        requires { HasRoom self.old s.now }
+        ensures { Puts self.old self.new s.now }
+    {
+        self.out[self.at..self.at + s.len()].copy_from_slice(s);
+        self.at += s.len();
     }
-}
 
-// Inner: the shortest decimal of n at a place; asks for room.
-pub fn put_decimal(n: u64, out: &mut [u8], at: usize) -> usize
-    requires { at + length (decimal_text n) ≤ length out.old }
-    ensures { Wrote out.old out.new at (decimal_text n) result }
-{
-    put_digits(n, decimal_length(n), out, at)
-}
+    // The last `count` decimal digits of n.
+    #[tactic(auto, using(crate::proofs::length::Digits::length_digits))]
+    pub fn put_digits(&mut self, n: u64, count: usize)
+        requires { HasRoom self.old (digits count n) }
+        ensures { Puts self.old self.new (digits count n) }
+    {
+        let mut rest = n;
+        for i in (0..count).rev() {
+            self.out[self.at + i] = b'0' + (rest % 10) as u8;
+            rest /= 10;
+        }
+        self.at += count;
+    }
 
-// Inner: the number n with leading zeros to at least `width` digits at a place; asks for room.
-pub fn put_padded(n: u64, width: usize, out: &mut [u8], at: usize) -> usize
-    requires { at + length (padded_text width n) ≤ length out.old }
-    ensures { Wrote out.old out.new at (padded_text width n) result }
-{
-    put_digits(n, padded_length(n, width), out, at)
-}
+    // A `-`, where the number is negative.
+    pub fn put_sign(&mut self, negative: bool)
+        requires { HasRoom self.old (sign_text negative) }
+        ensures { Puts self.old self.new (sign_text negative) }
+    {
+        if negative {
+            self.put(b'-');
+        }
+    }
 
-// Inner: the sign and the shortest decimal of n at a place; asks for room.
-pub fn put_signed(n: i32, out: &mut [u8], at: usize) -> usize
-    requires { at + length (signed_text n) ≤ length out.old }
-    ensures { Wrote out.old out.new at (signed_text n) result }
-{
-    let first = put_sign(n < 0, out, at);
-    put_decimal(outcome::magnitude(n) as u64, out, first)
+    // The shortest decimal of n.
+    #[tactic(auto, using(crate::proofs::length::Digits::length_digits, crate::proofs::write::Writers::decimal_digits))]
+    pub fn put_decimal(&mut self, n: u64)
+        requires { HasRoom self.old (decimal_text n) }
+        ensures { Puts self.old self.new (decimal_text n) }
+    {
+        self.put_digits(n, decimal_length(n));
+    }
+
+    // The number n with leading zeros to at least `width` digits.
+    #[tactic(auto, using(crate::proofs::length::Digits::length_digits, crate::proofs::write::Writers::padded_digits))]
+    pub fn put_padded(&mut self, n: u64, width: usize)
+        requires { HasRoom self.old (padded_text width n) }
+        ensures { Puts self.old self.new (padded_text width n) }
+    {
+        self.put_digits(n, padded_length(n, width));
+    }
+
+    // The sign and the shortest decimal of n.
+    pub fn put_signed(&mut self, n: i32)
+        requires { HasRoom self.old (signed_text n) }
+        ensures { Puts self.old self.new (signed_text n) }
+    {
+        self.put_sign(n < 0);
+        self.put_decimal(u64::from(outcome::magnitude(n)));
+    }
 }
 
 // The shortest decimal of a number, in front of the lent bytes; refused 16.
-pub fn write_u32(n: u32, out: &mut [u8]) -> LengthAnswer
-    ensures { Written out.old out.new (decimal_text n) (length_outcome result) }
+pub fn write_u32(n: u32, out: &mut [u8]) -> Result<usize, Refusal>
+    ensures { Written out.old out.new (decimal_text n) (outcome_of result) }
 {
     write_padded(n, 1, out)
 }
 
 // The shortest decimal of a signed number, in front of the lent bytes; refused 16.
-pub fn write_i32(n: i32, out: &mut [u8]) -> LengthAnswer
-    ensures { Written out.old out.new (signed_text n) (length_outcome result) }
+pub fn write_i32(n: i32, out: &mut [u8]) -> Result<usize, Refusal>
+    ensures { Written out.old out.new (signed_text n) (outcome_of result) }
 {
     if out.len() < signed_length(n) {
-        return LengthAnswer::Refused(outcome::TOO_FEW_PLACES);
+        return Err(Refusal::TooFewPlaces);
     }
-    LengthAnswer::Length(put_signed(n, out, 0))
+    let mut w = Writer::new(out);
+    w.put_signed(n);
+    Ok(w.at)
 }
 
 // A number with leading zeros to at least `width` digits, in front of the lent bytes; refused 16.
-pub fn write_padded(n: u32, width: usize, out: &mut [u8]) -> LengthAnswer
-    ensures { Written out.old out.new (padded_text width n) (length_outcome result) }
+pub fn write_padded(n: u32, width: usize, out: &mut [u8]) -> Result<usize, Refusal>
+    ensures { Written out.old out.new (padded_text width n) (outcome_of result) }
 {
-    let k = padded_length(n as u64, width);
-    if out.len() < k {
-        return LengthAnswer::Refused(outcome::TOO_FEW_PLACES);
+    let n = u64::from(n);
+    if out.len() < padded_length(n, width) {
+        return Err(Refusal::TooFewPlaces);
     }
-    LengthAnswer::Length(put_digits(n as u64, k, out, 0))
+    let mut w = Writer::new(out);
+    w.put_padded(n, width);
+    Ok(w.at)
 }

@@ -1,6 +1,7 @@
 pub mod Lists
 pub mod Numbers
 pub mod Outcomes
+pub mod Refusals
 pub mod Tallies
 pub mod Walks
 pub mod Filling

@@ -1,5 +1,6 @@
 pub mod Lists
 pub mod Outcome
+pub mod Refusals
 pub mod Walks
 pub mod Room
 pub mod Signs

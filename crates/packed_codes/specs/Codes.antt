@@ -7,10 +7,6 @@ use Rattle.day_count_conv.specs.declared.conventions.DayCountConv.{DayCountConv}
 use Rattle.day_count_conv.specs.declared.conventions.DayCountConv.TheVariants as conv
 use Rattle.day_adjust.specs.declared.DayAdjust.{DayAdjust}
 use Rattle.day_adjust.specs.declared.DayAdjust.TheVariants as rule
-use Rattle.packed_codes.specs.declared.ConventionAnswer.{ConventionAnswer}
-use Rattle.packed_codes.specs.declared.ConventionAnswer.TheVariants as convention-answer
-use Rattle.packed_codes.specs.declared.AdjustmentAnswer.{AdjustmentAnswer}
-use Rattle.packed_codes.specs.declared.AdjustmentAnswer.TheVariants as adjustment-answer
 
 -- what stands at a place; any other code is 18
 unfoldable pub at_place : {A : Type 0} → List A → ℕ → Outcome A
@@ -59,12 +55,3 @@ code_of_adjustment rule.None = 0
 code_of_adjustment rule.Following = 1
 code_of_adjustment rule.Preceding = 2
 code_of_adjustment rule.Modified = 3
-
--- the outcome that an answer is
-abbrev pub convention_outcome : ConventionAnswer → Outcome DayCountConv
-convention_outcome (convention-answer.Convention c) = given c
-convention_outcome (convention-answer.Refused n) = refused n
-
-abbrev pub adjustment_outcome : AdjustmentAnswer → Outcome DayAdjust
-adjustment_outcome (adjustment-answer.Adjustment a) = given a
-adjustment_outcome (adjustment-answer.Refused n) = refused n

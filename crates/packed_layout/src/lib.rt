@@ -2,9 +2,9 @@
 #![tactic(auto)]
 
 ghost use Rattle.std.specs.Prelude.{◌≡◌, ◌*◌, ◌≤◌, length};
-ghost use Rattle.bit_fields.specs.BitWriters.{Ready, FieldsPut};
+ghost use Rattle.bit_fields.specs.BitWriters.{HasRoom, FieldsPut};
 ghost use Rattle.packed_layout.specs.Layouts.{total};
-ghost use Rattle.packed_layout.specs.NoteLayout.{note_widths, note_numbers, note_fields, NumbersFit, bit_length};
+ghost use Rattle.packed_layout.specs.NoteLayout.{note_widths, note_numbers, note_fields, NumbersFit, bit_length, byte_length};
 
 use bit_fields::BitWriter;
 
@@ -14,7 +14,8 @@ const WIDTHS: [usize; FIELDS] = [
     4, 40, 14, 4, 5, 14, 4, 5, 5, 4, 3, 12, 3, 2, 32, 64, 5, 5, 5, 10,
 ];
 
-// The place of each field in the table.
+// The place of each field in the table. Constants and no enum: they index, and `Field::Digits as
+// usize` at each use would say no more.
 pub const DIGIT_COUNT: usize = 0;
 
 pub const DIGITS: usize = 1;
@@ -55,6 +56,13 @@ pub const THIRD_LETTER: usize = 18;
 
 pub const SPARE: usize = 19;
 
+// The numbers in a note's fields, each of which fits its bits.
+#[derive(Clone, Copy)]
+pub struct NoteNumbers {
+    pub fields: [u64; FIELDS],
+    pub ghost fit: { NumbersFit fields },
+}
+
 // The sum of the widths: 30 bytes.
 const NOTE_BITS: usize = 240;
 
@@ -62,12 +70,6 @@ const NOTE_BITS: usize = 240;
 pub const COUNT_WIDTH: usize = 16;
 
 pub const DAY_WIDTH: usize = 22;
-
-fn widths() -> [usize; FIELDS]
-    ensures { result ≡ note_widths }
-{
-    WIDTHS
-}
 
 // Inner: how many bits a note takes, behind which the table begins.
 pub fn note_bits() -> usize
@@ -84,35 +86,34 @@ pub fn record_bits(holidays: usize) -> usize
     note_bits() + COUNT_WIDTH + DAY_WIDTH * holidays
 }
 
-// Inner: the numbers in a note's fields; asks for bytes that hold them all.
-pub fn read_numbers(s: &[u8]) -> [u64; FIELDS]
-    requires { total note_widths ≤ 8 * length s.now }
-    ensures { (result ≡ note_numbers s.now) × (NumbersFit result) }
+// Inner: how many bytes they take; asks the same.
+pub fn record_bytes(holidays: usize) -> usize
+    requires { holidays ≤ 4096 }
+    ensures { result ≡ byte_length holidays }
 {
-    let widths = widths();
-    let mut numbers = [0u64; FIELDS];
-    let mut at: usize = 0;
-    let mut k: usize = 0;
-    while k < FIELDS {
-        let width = widths[k];
-        numbers[k] = bit_fields::read_field(s, at, width);
-        at += width;
-        k += 1;
-    }
-    numbers
+    record_bits(holidays).div_ceil(8)
 }
 
-// Inner: a note's numbers put into its fields; asks for room, and numbers that fit.
-pub fn put_numbers(writer: BitWriter, numbers: [u64; FIELDS], out: &mut [u8]) -> BitWriter
-    requires { (Ready writer (total note_widths) out.old) × (NumbersFit numbers) }
-    ensures { FieldsPut out.old out.new writer result (total note_widths) (note_fields numbers) }
+// Inner: the numbers in a note's fields; asks for bytes that hold them all.
+pub fn read_numbers(s: &[u8]) -> NoteNumbers
+    requires { total note_widths ≤ 8 * length s.now }
+    ensures { result.fields ≡ note_numbers s.now }
 {
-    let widths = widths();
-    let mut at = writer;
-    let mut k: usize = 0;
-    while k < FIELDS {
-        at = bit_fields::put_field(at, numbers[k], widths[k], out);
-        k += 1;
+    let mut fields = [0; FIELDS];
+    let mut at = 0;
+    for k in 0..FIELDS {
+        fields[k] = bit_fields::read_field(s, at, WIDTHS[k]);
+        at += WIDTHS[k];
     }
-    at
+    NoteNumbers { fields }
+}
+
+// Inner: a note's numbers put into its fields; asks for room.
+pub fn put_numbers(writer: &mut BitWriter<'_>, numbers: NoteNumbers)
+    requires { HasRoom writer.old (total note_widths) }
+    ensures { FieldsPut writer.old writer.new (total note_widths) (note_fields numbers.fields) }
+{
+    for k in 0..FIELDS {
+        writer.put(numbers.fields[k], WIDTHS[k]);
+    }
 }

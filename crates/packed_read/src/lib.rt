@@ -5,4 +5,4 @@ pub mod note;
 pub mod packed;
 pub mod table;
 
-pub use packed::{PackedAnswer, PackedNote, read_note};
+pub use packed::{PackedNote, read_note};

@@ -28,7 +28,7 @@ fn day_at(s: &[u8], i: usize) -> u32
 pub(crate) fn is_whole(s: &[u8]) -> bool
     ensures { result ≡ is_whole s.now }
 {
-    if s.len() < (packed_layout::record_bits(0) + 7) / 8 {
+    if s.len() < packed_layout::record_bytes(0) {
         return false;
     }
     let n = table_count(s);
@@ -36,10 +36,8 @@ pub(crate) fn is_whole(s: &[u8]) -> bool
         return true;
     }
     let end = packed_layout::record_bits(n);
-    if s.len() != (end + 7) / 8 {
-        return false;
-    }
-    bit_fields::read_field(s, end, s.len() * 8 - end) == 0
+    s.len() == packed_layout::record_bytes(n)
+        && bit_fields::read_field(s, end, s.len() * 8 - end) == 0
 }
 
 // The days in their order, each read once: false at the first that is not past the one before it,
@@ -48,19 +46,14 @@ fn read_days(s: &[u8], n: usize, days: &mut [u32]) -> bool
     requires { (n ≤ 4096) × (bit_length n ≤ 8 * length s.now) × (n ≤ length days.old) }
     ensures { (result ≡ ascends_from 1 (days_from s.now 0 n)) × (result ≡ true → take n days.new ≡ days_from s.now 0 n) }
 {
-    let mut low: u32 = 1;
-    let mut i: usize = 0;
-    while i < n {
+    let mut low = 1;
+    for i in 0..n {
         let d = day_at(s, i);
-        if d < low {
-            return false;
-        }
-        if LAST_DAY < d {
+        if d < low || LAST_DAY < d {
             return false;
         }
         days[i] = d;
         low = d + 1;
-        i += 1;
     }
     true
 }
@@ -70,8 +63,5 @@ pub(crate) fn is_table_in(s: &[u8], n: usize, days: &mut [u32]) -> bool
     requires { (is_whole s.now ≡ true) × (n ≡ table_count s.now) × (4096 ≤ length days.old) }
     ensures { (result ≡ is_table_in s.now) × (result ≡ true → take n days.new ≡ days_from s.now 0 n) }
 {
-    if MOST_HOLIDAYS < n {
-        return false;
-    }
-    read_days(s, n, days)
+    n <= MOST_HOLIDAYS && read_days(s, n, days)
 }

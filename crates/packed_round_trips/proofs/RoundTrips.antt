@@ -1,4 +1,5 @@
 -- Written and read: each gives back what the other took.
+use Rattle.std.specs.Prelude.{Ok}
 use Prim.Native.Nat.{ℕ}
 use mathlib.Core.Path.{◌≡◌, sym, ap, subst, ◌∙◌}
 use mathlib.Core.List.{List}
@@ -10,7 +11,6 @@ use Rattle.bond.specs.declared.note.Note.{Note}
 use Rattle.packed_read.specs.packed.Notes.{Unpacked, unpacked}
 use Rattle.packed_write.specs.numbers.Numbers.{numbers_of}
 use Rattle.number_text.specs.write.Writing.{written_length, shown_bytes}
-use Rattle.number_text.specs.declared.write.LengthAnswer.TheVariants.{Length}
 use Rattle.number_text.proofs.write.Writers.{written_text}
 use Rattle.packed_write.specs.packed.Writing.{packed_note, WritePromise}
 use Rattle.packed_round_trips.specs.RoundTrips.{InMachine, RoundTrips}
@@ -23,7 +23,7 @@ written_bytes_lem n table s e = subst AreBytes (was_packed n table s e).bytes (r
 written_reads : (n : Note) (table s : List ℕ) → InMachine n → packed_note n table ≡ given s → unpacked s ≡ given (record { note = n; days = table })
 written_reads n table s m e = let p = was_packed n table s e in ap unpacked (sym p.bytes) ∙ reads_back n table p.note p.table_taken m
 
-lent_reads : (n : Note) (table old new : List ℕ) (k : ℕ) → InMachine n → WritePromise n table old new (Length k) → unpacked (take k new) ≡ given (record { note = n; days = table })
+lent_reads : (n : Note) (table old new : List ℕ) (k : ℕ) → InMachine n → WritePromise n table old new (Ok k) → unpacked (take k new) ≡ given (record { note = n; days = table })
 lent_reads n table old new k m p =
     let w = then_given (packed_note n table) (written_length old) k (sym p.0) in
     let text : take k new ≡ w.0 = written_text old new w.0 k (sym w.2, p.1 ∙ ap (shown_bytes old) w.1) in

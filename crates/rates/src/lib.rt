@@ -8,4 +8,4 @@ pub mod simple;
 
 pub use plain::discount_plain_flows;
 pub use records::discount_cash_flow_stream;
-pub use simple::{FactorAnswer, FlatRate, discount_cash_flow, discount_factor};
+pub use simple::{FlatRate, discount_cash_flow, discount_factor};

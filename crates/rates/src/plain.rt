@@ -1,19 +1,16 @@
 // Discounting a stream that is given as plain lists.
-ghost use Rattle.std.specs.Prelude.{◌≡◌, ◌<◌, leb, length, get_or};
-ghost use Rattle.std.specs.Float.Ieee.Scale.{finite};
-ghost use Rattle.outcome.specs.Outcome.{both};
-ghost use Rattle.cash_flow.specs.currency.Amounts.{is_same_currency, amount_outcome};
-ghost use Rattle.rates.specs.simple.Rates.{flow_added};
+ghost use Rattle.std.specs.Prelude.{◌≡◌, get_or};
+ghost use Rattle.outcome.specs.Refusals.{outcome_of};
+ghost use Rattle.cash_flow.specs.flow.Flows.{date_on};
+ghost use Rattle.rates.specs.simple.Rates.{flow_value};
 ghost use Rattle.rates.specs.plain.Counted.{year_days, counted_from};
-ghost use Rattle.rates.specs.plain.Plain.{currency_at, flow_at, DiscountPlainPromise};
+ghost use Rattle.rates.specs.plain.Plain.{currency_at, DiscountPlainPromise};
 
 use crate::simple::FlatRate;
-use calendar::Date;
-use cash_flow::{AmountAnswer, CashFlow, Currency};
+use calendar::{Date, LAST_DAY};
+use cash_flow::{CashFlow, Currency};
 use day_count_conv::DayCountConv;
-
-// The day after the calendar's last.
-const NO_DAY: u32 = 3652060;
+use outcome::Refusal;
 
 // The currency whose three bytes a number is, or one that is malformed.
 fn currency_at(n: u32) -> Currency
@@ -34,10 +31,11 @@ fn currency_at(n: u32) -> Currency
     }
 }
 
+// What a list has at a place, or 0 past its end.
 fn entry(s: &[u32], i: usize) -> u32
     ensures { result ≡ get_or s.now i 0 }
 {
-    if i < s.len() { s[i] } else { 0 }
+    s.get(i).copied().unwrap_or(0)
 }
 
 // The days of a rule's year where it counts days, and 0 where it does not.
@@ -47,111 +45,79 @@ fn year_days(convention: DayCountConv) -> u32
     match convention {
         DayCountConv::Act365 => 365,
         DayCountConv::Act360 => 360,
-        DayCountConv::Act365l => 0,
-        DayCountConv::D30_360 => 0,
-        DayCountConv::D30E360 => 0,
-        DayCountConv::ActActICMA => 0,
+        _ => 0,
     }
 }
 
 // The day from which on a flow needs no date: today, judged once for all flows; or none.
-fn counted_from(rate: FlatRate, today: Date) -> u32
+#[tactic(auto, unfolding(crate::specs::plain::Counted::counted_from))]
+fn counted_from(rate: FlatRate, today: Date) -> Option<u32>
     ensures { result ≡ counted_from rate today }
 {
-    let convention = rate.day_count_conv;
-    if year_days(convention) < 1 {
-        return NO_DAY;
+    if year_days(rate.day_count_conv) == 0
+        || !cash_flow::is_currency(rate.currency)
+        || !calendar::is_date(today)
+    {
+        return None;
     }
-    if !cash_flow::is_currency(rate.currency) {
-        return NO_DAY;
-    }
-    if !calendar::is_date(today) {
-        return NO_DAY;
-    }
-    calendar::day_of_date(today)
+    Some(calendar::day_of_date(today))
 }
 
-// Whether nothing of a flow is refused, and its days are enough.
-fn is_counted(from: u32, own: Currency, day: u32, currency: Currency, amount: f64) -> bool
-    ensures { result ≡ both (leb from day) (both (leb day 3652059) (both (is_same_currency own currency) (finite amount))) }
-{
-    if day < from {
-        return false;
-    }
-    if NO_DAY <= day {
-        return false;
-    }
-    if !cash_flow::is_same_currency(own, currency) {
-        return false;
-    }
-    crate::factors::is_finite(amount)
-}
-
-// The flow at place i, added to the sum so far. A date is taken only where days are not enough: it
-// costs more than all the rest.
-fn added_at(
+// What one flow is worth today. A date is taken only where days are not enough: it costs more than
+// all the rest.
+fn value_on(
     rate: FlatRate,
-    days: &[u32],
-    currencies: &[u32],
-    amounts: &[f64],
-    i: usize,
     today: Date,
-    from: u32,
-    sum: f64,
-) -> AmountAnswer
-    requires { (i < length amounts.now) × (from ≡ counted_from rate today) }
-    ensures { amount_outcome result ≡ flow_added rate today sum (flow_at days.now currencies.now amounts.now i) }
+    from: Option<u32>,
+    day: u32,
+    currency: Currency,
+    amount: f64,
+) -> Result<f64, Refusal>
+    requires { from ≡ counted_from rate today }
+    ensures { outcome_of result ≡ flow_value rate today (record { date = date_on day; currency = currency; amount = amount }) }
 {
-    let day = entry(days, i);
-    let currency = currency_at(entry(currencies, i));
-    let amount = amounts[i];
-    let own = rate.currency;
-    if !is_counted(from, own, day, currency, amount) {
-        let date = cash_flow::date_or_none(day);
-        return crate::simple::flow_added(
-            rate,
-            CashFlow {
-                date,
-                currency,
-                amount,
-            },
-            today,
-            sum,
-        );
+    if let Some(from) = from
+        && from <= day
+        && day <= LAST_DAY
+        && currency == rate.currency
+        && amount.is_finite()
+    {
+        let yf = f64::from(day - from) / f64::from(year_days(rate.day_count_conv));
+        return Ok(crate::factors::simple_factor(rate.rate, yf) * amount);
     }
-    let convention = rate.day_count_conv;
-    let yf = (day - from) as f64 / year_days(convention) as f64;
-    AmountAnswer::Amount(sum + crate::factors::simple_factor(rate.rate, yf) * amount)
+    let date = cash_flow::date_or_none(day);
+    crate::simple::flow_value(
+        rate,
+        CashFlow {
+            date,
+            currency,
+            amount,
+        },
+        today,
+    )
 }
 
 // What a stream of three plain lists is worth today, summed from 0 in order; refused 15 for the
 // rate, then flow by flow 15, 17 and by the fraction.
+#[tactic(auto, using(day_fraction::proofs::Written::lit0), unfolding(crate::specs::simple::Rates::discounted_stream))]
 pub fn discount_plain_flows(
     rate: FlatRate,
     days: &[u32],
     currencies: &[u32],
     amounts: &[f64],
     today: Date,
-) -> AmountAnswer
+) -> Result<f64, Refusal>
     ensures { DiscountPlainPromise rate today days.now currencies.now amounts.now result }
 {
     // The lists are serial days, currencies as numbers, and amounts.
     if !crate::factors::is_discount_rate(rate.rate) {
-        return AmountAnswer::Refused(outcome::NUMBER_OUT_OF_LIMITS);
+        return Err(Refusal::NumberOutOfLimits);
     }
     let from = counted_from(rate, today);
-    let mut sum: f64 = 0.0;
-    let mut i: usize = 0;
-    while i < amounts.len() {
-        match added_at(rate, days, currencies, amounts, i, today, from, sum) {
-            AmountAnswer::Amount(x) => {
-                sum = x;
-            }
-            AmountAnswer::Refused(n) => {
-                return AmountAnswer::Refused(n);
-            }
-        }
-        i += 1;
+    let mut sum = 0.0;
+    for (i, amount) in amounts.iter().enumerate() {
+        let currency = currency_at(entry(currencies, i));
+        sum += value_on(rate, today, from, entry(days, i), currency, *amount)?;
     }
-    AmountAnswer::Amount(sum)
+    Ok(sum)
 }

@@ -1,13 +1,13 @@
 -- An array of flows in a local: its first flows are lent as a slice, and the array is whole again.
 use mathlib.Core.Path.{◌≡◌, refl, sym, ◌∙◌, subst}
 use Prim.Native.Nat.{ℕ, ◌≤◌}
-use mathlib.Core.List.{List, [], ◌∷◌, ◌++◌, map}
+use mathlib.Core.List.{List, [], ◌∷◌, ◌++◌}
 use lib.ListN.{length, take, drop as drop-list, take-append-drop}
 use lib.Seq.{length_front}
 use seplogic.Ra.Ura.{Ura}
 use base.Fraction.{full_share}
 use package.mir.Syntax.{Ty, Lifetime, ty_array}
-use package.mir.Val.{Val, vstruct, of_list}
+use package.mir.Val.{Val}
 use base.Logic.{ent, sep, ex, guard}
 use base.Fml.{Lft, GName, Fml, fsep, fat, fdead, flent}
 use types.Logic.{Logic, sem}
@@ -20,24 +20,16 @@ use denote.Lend.{Held, lends_slice, slice_back}
 use denote.Ref.{MutBor}
 use denote.Slice.{Room, MutSlice, slice_val, finally}
 use denote.Memory.{cell_at, part_at, mem, shares, part_of}
-use denote.Array.{each, Array, array_vals, Array-Makes, Array-Lawful, Array-Tells}
+use denote.Array.{Array, array_vals, Array-Makes, Array-Lawful, Array-Tells}
 use denote.ArrayMemory.{Array-apart, Array-whole}
 use denote.Steps.{owned, peeks, only}
 use denote.Struct.Laws as LL
-use denote.Enum.Laws as EL
-use denote.Shadow.{shadow}
 use borrow.Rule.Slice.Shared.{parts-cells}
 use borrow.Table.Elements.{at, cut_app, join_app}
 use lib.Seq.{length-take-le}
-use Rattle.outcome.proofs.RecordWalks.{held}
-use Rattle.cash_flow.specs.declared.flow.FlowsAnswer.{FlowsAnswer}
-use Rattle.cash_flow.specs.contracts.flow.FlowsAnswer as E
-use Rattle.cash_flow.proofs.flow.FlowsAnswer.TheLaws as E'
 use Rattle.cash_flow.specs.declared.flow.CashFlow.{CashFlow}
 use Rattle.cash_flow.specs.contracts.flow.CashFlow as T
 use Rattle.cash_flow.proofs.flow.CashFlow.TheLaws as T'
-use Rattle.replay.specs.declared.records.Records.{Records}
-use Rattle.replay.specs.contracts.records.Records as S
 
 -- the machine value of an array of flows, and its type
 abbrev pub flows-val : List CashFlow → Val
@@ -71,26 +63,6 @@ Shared b κ ys k = fsep (flent κ ((arr_parts (shares T.the_row) (length (take k
 -- and as `&mut`
 abbrev pub Taken : ℕ → Lft → List CashFlow → ℕ → GName → Fml
 Taken b κ ys k γ = fsep (flent κ (Held T.the_row (length (take k ys)) b 0 γ)) (cells (mem T.the_row) (drop-list k ys) b (behind ys k))
-
--- an answer's machine value
-abbrev pub answer : FlowsAnswer → Val
-answer a = EL.val E.the_type E'.the_laws a
-
--- an answer with its room is a record, which has the flows by their fields
-abbrev pub result : FlowsAnswer → List CashFlow → Records
-result r zs = record { answer = r; room = zs }
-
-abbrev pub result_val : FlowsAnswer → List CashFlow → Val
-result_val r zs = vstruct (of_list (answer r ∷ flows-val zs ∷ []))
-
-as_field : (zs : List CashFlow) (us : List Val) → shadow (each CashFlow (T.the_row).own_val zs us) → shadow (each (T.the_field).row.Denot (T.the_field).row.own_val (map (T.the_field).into zs) us)
-as_field [] [] s = s
-as_field [] (u ∷ us) s = s
-as_field (z ∷ zs) [] s = s
-as_field (z ∷ zs) (u ∷ us) s = (s.0, as_field zs us s.1)
-
-pub made : (r : FlowsAnswer) (zs : List CashFlow) (u : Val) → Is E.the_row r (u ∷ []) → Flows 300 zs → Is S.the_row (result r zs) (result_val r zs ∷ [])
-made r zs u h g = ((answer r ∷ [], (flows-val zs ∷ [], tt)), (refl, (held E.the_type E'.the_laws r u h, (g, tt))))
 
 module _ {M : Type 1} {𝓤 : Ura M} (𝓛 : Logic 𝓤) (n : ℕ) (b : ℕ) where
   -- such an array has its type

@@ -1,243 +1,207 @@
-// The fields of a record: what its bytes do not have is read as zeros.
-ghost use Rattle.std.specs.Prelude.{◌≤◌};
-
+// The fields of a record, one after another: what its bytes do not have is read as zeros.
+use crate::given::Given;
+use crate::lent;
 use bond::{Note, NoteNumber};
 use calendar::{Date, Day};
 use cash_flow::{CashFlow, Currency};
 use coupon_date::CouponDate;
 use day_adjust::DayAdjust;
-use day_count_conv::DayCountConv;
+use day_count_conv::{DayCountConv, NoteTerms};
+use rates::FlatRate;
+use std::array;
 use time_period::{TimePeriod, TimePeriodUnit};
 
-const SIGN: u64 = 9223372036854775808;
+const UNITS: [TimePeriodUnit; 5] = [
+    TimePeriodUnit::Daily,
+    TimePeriodUnit::BusinessDaily,
+    TimePeriodUnit::Weekly,
+    TimePeriodUnit::Monthly,
+    TimePeriodUnit::Annual,
+];
 
-const INFINITE: u64 = 9218868437227405312;
+const CONVENTIONS: [DayCountConv; 6] = [
+    DayCountConv::Act365,
+    DayCountConv::Act360,
+    DayCountConv::Act365l,
+    DayCountConv::D30_360,
+    DayCountConv::D30E360,
+    DayCountConv::ActActICMA,
+];
 
-pub(crate) fn byte(f: &[u8], at: usize) -> u8 {
-    if at < f.len() { f[at] } else { 0 }
+const ADJUSTMENTS: [DayAdjust; 4] = [
+    DayAdjust::None,
+    DayAdjust::Following,
+    DayAdjust::Preceding,
+    DayAdjust::Modified,
+];
+
+#[derive(Clone, Copy)]
+pub(crate) struct Fields<'a> {
+    rest: &'a [u8],
 }
 
-// Whether a byte is 1.
-pub(crate) fn yes(f: &[u8], at: usize) -> bool {
-    byte(f, at) == 1
-}
-
-// What follows the first bytes.
-pub(crate) fn rest(f: &[u8], at: usize) -> &[u8] {
-    if f.len() < at {
-        return &f[..0];
+impl<'a> Fields<'a> {
+    pub(crate) fn new(rest: &'a [u8]) -> Fields<'a> {
+        Fields { rest }
     }
-    &f[at..]
-}
 
-fn half_of(a: u8, b: u8) -> u32
-    ensures { result ≤ 65535 }
-{
-    256 * (a as u32) + (b as u32)
-}
-
-fn word_of(high: u32, low: u32) -> u32
-    requires high_bound { high ≤ 65535 }
-    requires low_bound { low ≤ 65535 }
-{
-    65536 * high + low
-}
-
-// Two bytes.
-pub(crate) fn half(f: &[u8], at: usize) -> u32
-    ensures { result ≤ 65535 }
-{
-    let f = rest(f, at);
-    half_of(byte(f, 0), byte(f, 1))
-}
-
-// Four bytes.
-pub(crate) fn word(f: &[u8], at: usize) -> u32 {
-    let f = rest(f, at);
-    word_of(half(f, 0), half(f, 2))
-}
-
-fn long_of(high: u32, low: u32) -> u64 {
-    4294967296 * (high as u64) + (low as u64)
-}
-
-// Eight bytes.
-pub(crate) fn long(f: &[u8], at: usize) -> u64 {
-    let f = rest(f, at);
-    long_of(word(f, 0), word(f, 4))
-}
-
-// The number of a pattern without its sign; only patterns that are no NaN's have one by their bits.
-fn magnitude_of(bits: u64) -> f64 {
-    if bits < INFINITE {
-        return f64::from_bits(bits);
+    // What is not read yet.
+    pub(crate) fn rest(self) -> &'a [u8] {
+        self.rest
     }
-    let infinity = 1.0 / 0.0;
-    if bits == INFINITE {
-        return infinity;
+
+    pub(crate) fn byte(&mut self) -> u8 {
+        let Some((byte, rest)) = self.rest.split_first() else {
+            return 0;
+        };
+        self.rest = rest;
+        *byte
     }
-    infinity - infinity
-}
 
-pub(crate) fn float(f: &[u8], at: usize) -> f64 {
-    let bits = long(f, at);
-    if bits < SIGN {
-        return magnitude_of(bits);
+    fn bytes<const N: usize>(&mut self) -> [u8; N] {
+        array::from_fn(|_| self.byte())
     }
-    -magnitude_of(bits - SIGN)
-}
 
-fn minus(m: u32) -> i32
-    requires { m ≤ 2147483647 }
-{
-    0 - (m as i32)
-}
-
-// Four bytes with a sign.
-pub(crate) fn signed(f: &[u8], at: usize) -> i32 {
-    let w = word(f, at);
-    if w < 2147483648 {
-        return w as i32;
+    // Whether a byte is 1.
+    pub(crate) fn yes(&mut self) -> bool {
+        self.byte() == 1
     }
-    if w == 2147483648 {
-        return -2147483648;
+
+    // One of a kind, by its place; the last where there is no such place.
+    fn one_of<T: Copy>(&mut self, kinds: &[T], last: T) -> T {
+        let place = usize::from(self.byte());
+        kinds.get(place).copied().unwrap_or(last)
     }
-    minus(4294967295 - w + 1)
-}
 
-fn minus_long(m: u64) -> i64
-    requires { m ≤ 9223372036854775807 }
-{
-    0 - (m as i64)
-}
-
-// Eight bytes with a sign.
-pub(crate) fn signed_long(f: &[u8], at: usize) -> i64 {
-    let w = long(f, at);
-    if w < SIGN {
-        return w as i64;
+    fn count(&mut self) -> usize {
+        usize::from(u16::from_be_bytes(self.bytes()))
     }
-    if w == SIGN {
-        return -9223372036854775808;
+
+    pub(crate) fn word(&mut self) -> u32 {
+        u32::from_be_bytes(self.bytes())
     }
-    minus_long(18446744073709551615 - w + 1)
-}
 
-pub(crate) fn date(f: &[u8], at: usize) -> Date {
-    let f = rest(f, at);
-    Date {
-        year: word(f, 0),
-        month: word(f, 4),
-        day: word(f, 8),
+    pub(crate) fn long(&mut self) -> u64 {
+        u64::from_be_bytes(self.bytes())
     }
-}
 
-pub(crate) fn day(f: &[u8], at: usize) -> Day {
-    Day(word(f, at))
-}
-
-fn unit_of(b: u8) -> TimePeriodUnit {
-    match b {
-        0 => TimePeriodUnit::Daily,
-        1 => TimePeriodUnit::BusinessDaily,
-        2 => TimePeriodUnit::Weekly,
-        3 => TimePeriodUnit::Monthly,
-        _ => TimePeriodUnit::Annual,
+    pub(crate) fn signed(&mut self) -> i32 {
+        i32::from_be_bytes(self.bytes())
     }
-}
 
-pub(crate) fn period(f: &[u8], at: usize) -> TimePeriod {
-    let f = rest(f, at);
-    TimePeriod {
-        num: signed(f, 0),
-        unit: unit_of(byte(f, 4)),
+    pub(crate) fn signed_long(&mut self) -> i64 {
+        i64::from_be_bytes(self.bytes())
     }
-}
 
-pub(crate) fn convention(f: &[u8], at: usize) -> DayCountConv {
-    match byte(f, at) {
-        0 => DayCountConv::Act365,
-        1 => DayCountConv::Act360,
-        2 => DayCountConv::Act365l,
-        3 => DayCountConv::D30_360,
-        4 => DayCountConv::D30E360,
-        _ => DayCountConv::ActActICMA,
+    pub(crate) fn float(&mut self) -> f64 {
+        std::num::f64_from_bits_with_nan(self.long())
     }
-}
 
-pub(crate) fn adjustment(f: &[u8], at: usize) -> DayAdjust {
-    match byte(f, at) {
-        0 => DayAdjust::None,
-        1 => DayAdjust::Following,
-        2 => DayAdjust::Preceding,
-        _ => DayAdjust::Modified,
+    // How many places of a lent room are asked for.
+    pub(crate) fn places(&mut self) -> usize {
+        self.word() as usize
     }
-}
 
-pub(crate) fn currency(f: &[u8], at: usize) -> Currency {
-    let f = rest(f, at);
-    Currency {
-        first: byte(f, 0),
-        second: byte(f, 1),
-        third: byte(f, 2),
-    }
-}
-
-pub(crate) fn flow(f: &[u8], at: usize) -> CashFlow {
-    let f = rest(f, at);
-    CashFlow {
-        date: date(f, 0),
-        currency: currency(f, 12),
-        amount: float(f, 15),
-    }
-}
-
-pub(crate) fn coupon(f: &[u8], at: usize) -> CouponDate {
-    let f = rest(f, at);
-    CouponDate {
-        day: word(f, 0),
-        month: word(f, 4),
-    }
-}
-
-pub(crate) fn note_number(f: &[u8]) -> NoteNumber {
-    NoteNumber {
-        count: word(f, 0),
-        digits: long(f, 4),
-    }
-}
-
-// A note is the first 66 bytes.
-pub(crate) fn note(f: &[u8]) -> Note {
-    Note {
-        number: note_number(f),
-        issue_date: date(f, 12),
-        maturity: date(f, 24),
-        coupon_date: coupon(f, 36),
-        period: period(f, 44),
-        day_count_convention: convention(f, 49),
-        business_day_rule: adjustment(f, 50),
-        denomination: word(f, 51),
-        rate: float(f, 55),
-        currency: currency(f, 63),
-    }
-}
-
-// How many places of a lent room are asked for.
-pub(crate) fn places(f: &[u8], at: usize) -> usize {
-    word(f, at) as usize
-}
-
-// The words that follow their count, into the table; answers the count.
-pub(crate) fn table(f: &[u8], table: &mut [u32]) -> usize {
-    let n = half(f, 0) as usize;
-    let mut i: usize = 0;
-    while i < n {
-        if table.len() <= i {
-            return i;
+    pub(crate) fn date(&mut self) -> Date {
+        Date {
+            year: self.word(),
+            month: self.word(),
+            day: self.word(),
         }
-        table[i] = word(f, 4 * i + 2);
-        i += 1;
     }
-    i
+
+    pub(crate) fn day(&mut self) -> Day {
+        Day(self.word())
+    }
+
+    pub(crate) fn period(&mut self) -> TimePeriod {
+        TimePeriod {
+            num: self.signed(),
+            unit: self.one_of(&UNITS, TimePeriodUnit::Annual),
+        }
+    }
+
+    pub(crate) fn convention(&mut self) -> DayCountConv {
+        self.one_of(&CONVENTIONS, DayCountConv::ActActICMA)
+    }
+
+    pub(crate) fn adjustment(&mut self) -> DayAdjust {
+        self.one_of(&ADJUSTMENTS, DayAdjust::Modified)
+    }
+
+    pub(crate) fn terms(&mut self) -> NoteTerms {
+        let is_rolled = self.yes();
+        let roll = self.date();
+        let is_periodic = self.yes();
+        let period = self.period();
+        NoteTerms {
+            roll: is_rolled.then_some(roll),
+            period: is_periodic.then_some(period),
+        }
+    }
+
+    pub(crate) fn currency(&mut self) -> Currency {
+        Currency {
+            first: self.byte(),
+            second: self.byte(),
+            third: self.byte(),
+        }
+    }
+
+    pub(crate) fn flow(&mut self) -> CashFlow {
+        CashFlow {
+            date: self.date(),
+            currency: self.currency(),
+            amount: self.float(),
+        }
+    }
+
+    pub(crate) fn flat_rate(&mut self) -> FlatRate {
+        FlatRate {
+            rate: self.float(),
+            day_count_conv: self.convention(),
+            currency: self.currency(),
+        }
+    }
+
+    pub(crate) fn coupon(&mut self) -> CouponDate {
+        CouponDate {
+            day: self.word(),
+            month: self.word(),
+        }
+    }
+
+    pub(crate) fn note_number(&mut self) -> NoteNumber {
+        NoteNumber {
+            count: self.word(),
+            digits: self.long(),
+        }
+    }
+
+    pub(crate) fn note(&mut self) -> Note {
+        Note {
+            number: self.note_number(),
+            issue_date: self.date(),
+            maturity: self.date(),
+            coupon_date: self.coupon(),
+            period: self.period(),
+            day_count_convention: self.convention(),
+            business_day_rule: self.adjustment(),
+            denomination: self.word(),
+            rate: self.float(),
+            currency: self.currency(),
+        }
+    }
+
+    // The days behind their count.
+    pub(crate) fn table(&mut self) -> Given<u32, 4200> {
+        let n = self.count();
+        Given::new(n, 0, || self.word())
+    }
+
+    // The flows behind their count.
+    pub(crate) fn flows<const N: usize>(&mut self) -> Given<CashFlow, N> {
+        let n = self.count();
+        Given::new(n, lent::FLOW, || self.flow())
+    }
 }

@@ -1,3 +1,2 @@
 pub mod plain
-pub mod buffer
 pub mod records

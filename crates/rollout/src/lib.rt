@@ -1,7 +1,6 @@
 // All flows of a note or the first refusal, into plain lists or as records.
 #![tactic(auto)]
 
-pub mod buffer;
 pub mod plain;
 pub mod records;
 

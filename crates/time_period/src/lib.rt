@@ -6,8 +6,8 @@ pub mod frequencies;
 pub mod steps;
 
 pub use added::{add_to, add_to_with, sub_from, sub_from_with};
-pub use frequencies::{FrequencyAnswer, frequency};
-pub use steps::{PeriodAnswer, TimePeriod, TimePeriodUnit, UnitAnswer, inverse};
+pub use frequencies::frequency;
+pub use steps::{TimePeriod, TimePeriodUnit, inverse};
 
 // Inner: for the crates of the register, which have judged what these ask for.
 pub use steps::step;

@@ -1,14 +1,14 @@
 // Periods, as finql's time_period.rs: their inverse, and a step from a date.
 ghost use Rattle.std.specs.Prelude.{◌≡◌, true};
-ghost use Rattle.outcome.specs.Outcome.{and_then};
+ghost use Rattle.outcome.specs.Refusals.{outcome_of};
 ghost use Rattle.calendar.specs.dates.Dates.{is_date};
-ghost use Rattle.calendar.specs.serial.Answers.{day_outcome, date_outcome, date_of};
-ghost use Rattle.business_days.specs.table.Table.{ascending};
-ghost use Rattle.time_period.specs.steps.Steps.{absent, table, business_step, stepped, InversePromise};
+ghost use Rattle.time_period.specs.steps.Steps.{absent, table, judged, business_step, stepped, InversePromise};
 
-use calendar::{Date, DateAnswer, DayAnswer};
+use business_days::{Holidays, Spot};
+use calendar::Date;
+use outcome::Refusal;
 
-#[derive(Clone, Copy)]
+#[derive(Clone, Copy, Debug, PartialEq, Eq)]
 pub enum TimePeriodUnit {
     Daily,
     BusinessDaily,
@@ -17,82 +17,65 @@ pub enum TimePeriodUnit {
     Annual,
 }
 
-#[derive(Clone, Copy)]
+#[derive(Clone, Copy, Debug, PartialEq, Eq)]
 pub struct TimePeriod {
     pub num: i32,
     pub unit: TimePeriodUnit,
 }
 
-#[derive(Clone, Copy)]
-pub enum PeriodAnswer {
-    Period(TimePeriod),
-    Refused(u32),
-}
-
-#[derive(Clone, Copy)]
-pub enum UnitAnswer {
-    Unit(TimePeriodUnit),
-    Refused(u32),
-}
-
 // The period with its number negated; refused 4 for -2,147,483,648.
-pub fn inverse(p: TimePeriod) -> PeriodAnswer
+#[tactic(auto, unfolding(crate::specs::steps::Steps::inverse_of))]
+pub fn inverse(p: TimePeriod) -> Result<TimePeriod, Refusal>
     ensures { InversePromise p result }
 {
-    let n = p.num;
-    if n == -2147483648 {
-        return PeriodAnswer::Refused(outcome::INVALID_PERIOD);
+    if p.num == i32::MIN {
+        return Err(Refusal::InvalidPeriod);
     }
-    let unit = p.unit;
-    PeriodAnswer::Period(TimePeriod { num: -n, unit })
+    Ok(TimePeriod {
+        num: -p.num,
+        unit: p.unit,
+    })
 }
 
-// Inner: the date a period on, without a holiday table; asks for a date that exists.
-pub fn step(p: TimePeriod, t: Date) -> DateAnswer
+fn step_business(n: i32, t: Date, holidays: Holidays) -> Result<Date, Refusal>
     requires { is_date t ≡ true }
-    ensures { date_outcome result ≡ stepped p absent t }
+    ensures { outcome_of result ≡ business_step n (table holidays.entry.days.now) t }
 {
-    // A walk judges its dates once.
-    let unit = p.unit;
-    match unit {
-        TimePeriodUnit::Daily => date_step::days_later(t, p.num as i64),
-        TimePeriodUnit::BusinessDaily => DateAnswer::Refused(outcome::MISSING_CALENDAR),
-        TimePeriodUnit::Weekly => date_step::days_later(t, 7 * p.num as i64),
+    let spot = Spot::new(calendar::day_of_date(t), holidays);
+    let k = n.unsigned_abs();
+    let found = if n < 0 {
+        spot.earlier(k)?
+    } else {
+        spot.later(k)?
+    };
+    calendar::date_of(found)
+}
+
+// The date a period on, over holidays or without them. Always inlined: where none are lent no date
+// goes through memory.
+#[inline(always)]
+#[tactic(auto, unfolding(crate::specs::steps::Steps::business_step))]
+pub(crate) fn step_over(p: TimePeriod, t: Date, holidays: Option<Holidays>) -> Result<Date, Refusal>
+    requires { is_date t ≡ true }
+    ensures { outcome_of result ≡ stepped p (judged holidays.entry) t }
+{
+    match p.unit {
+        TimePeriodUnit::Daily => date_step::days_later(t, i64::from(p.num)),
+        TimePeriodUnit::BusinessDaily => match holidays {
+            Some(h) => step_business(p.num, t, h),
+            None => Err(Refusal::MissingCalendar),
+        },
+        TimePeriodUnit::Weekly => date_step::days_later(t, 7 * i64::from(p.num)),
         TimePeriodUnit::Monthly => date_step::months_later(t, p.num),
         TimePeriodUnit::Annual => date_step::years_later(t, p.num),
     }
 }
 
-// The date of the day that a search found.
-fn dated(d: DayAnswer) -> DateAnswer
-    ensures { date_outcome result ≡ and_then (day_outcome d) date_of }
+// Inner: the date a period on, without a holiday table; asks for a date that exists.
+pub fn step(p: TimePeriod, t: Date) -> Result<Date, Refusal>
+    requires { is_date t ≡ true }
+    ensures { outcome_of result ≡ stepped p absent t }
 {
-    match d {
-        DayAnswer::Day(day) => calendar::date_of(day),
-        DayAnswer::Refused(k) => DateAnswer::Refused(k),
-    }
-}
-
-fn step_business(n: i32, t: Date, holidays: &[u32]) -> DateAnswer
-    requires { (is_date t ≡ true) × (ascending holidays.now ≡ true) }
-    ensures { date_outcome result ≡ business_step n (table holidays.now) t }
-{
-    let day = calendar::day_of_date(t);
-    if n < 0 {
-        dated(business_days::earlier_from(day, outcome::magnitude(n), holidays))
-    } else {
-        dated(business_days::later_from(day, outcome::magnitude(n), holidays))
-    }
-}
-
-// Inner: the date a period on, over holidays; asks for a date that exists and ascending holidays.
-pub(crate) fn step_with(p: TimePeriod, t: Date, holidays: &[u32]) -> DateAnswer
-    requires { (is_date t ≡ true) × (ascending holidays.now ≡ true) }
-    ensures { date_outcome result ≡ stepped p (table holidays.now) t }
-{
-    let unit = p.unit;
-    if let TimePeriodUnit::BusinessDaily = unit {
-        return step_business(p.num, t, holidays);
-    }
-    step(p, t)
+    // A walk judges its dates once.
+    step_over(p, t, None)
 }

@@ -1,5 +1,6 @@
 -- Accrued interest on a denomination up to 1,000,000 is within 1 / 100,000 of the exact amount; and
 -- what is refused is refused alike.
+use Rattle.std.specs.Prelude.{Result}
 use Prim.Native.Nat.{ℕ, ◌+◌, ◌*◌, ◌≤◌, zero-le}
 use mathlib.Core.Path.{◌≡◌, refl, sym, ◌∙◌, subst}
 use mathlib.Core.Bool.{Bool, true, false}
@@ -9,6 +10,8 @@ use lib.Dec.{T, lit<, lit≤}
 use lib.IntN.{pos, ◌*ℤ◌}
 use lib.Ieee.{Float, binary64, mul, fits, of_bits}
 use Rattle.outcome.specs.Outcome.{Outcome, given, both}
+use Rattle.outcome.specs.Refusals.{outcome_of}
+use Rattle.outcome.specs.declared.Refusal.{Refusal}
 use Rattle.rounding.proofs.Algebra.{ring}
 use Rattle.rounding.proofs.Integers.{plus, minus, of_int_lem, diff_mul}
 use Rattle.rounding.proofs.Near.{near_int}
@@ -22,8 +25,7 @@ use Rattle.calendar.proofs.dates.Order.{not-before}
 use Rattle.day_fraction.specs.Exact.{Exact}
 use Rattle.day_fraction.specs.Fractions.{whole, quotient}
 use Rattle.day_fraction.proofs.Bounds.{NearTo}
-use Rattle.day_count_conv.specs.conventions.Conventions.{fraction_outcome, year_fraction, Agree, fractions_exactly, fractions_in_f64}
-use Rattle.day_count_conv.specs.declared.conventions.YearFraction.{YearFraction}
+use Rattle.day_count_conv.specs.conventions.Conventions.{year_fraction, Agree, fractions_exactly, fractions_in_f64}
 use Rattle.day_count_conv.proofs.conventions.Agreement.{unless_agree, pick_agree, then_agree, given_agree}
 use Rattle.day_count_conv.proofs.conventions.Bounds.{year_near}
 use Rattle.bond.specs.note.Notes.{note_checks, first_coupon_end, interest_on, exact_interest}
@@ -99,6 +101,6 @@ accrued_agrees n today few held =
     (λ m e. let k = passed true true n m e in subst (λ (o : Note). Agree CloseAmount (accrued_on amounts_in_f64 o today) (accrued_on amounts_exactly o today)) k.itself (on_agrees n today few held k.note))
 
 -- the bits of a result are all that is left to show
-pub promised : (n : Note) (today : Date) (r : YearFraction) → T (fits binary64 n.rate) → fraction_outcome r ≡ accrued amounts_in_f64 n today → AccruedPromise n today r
+pub promised : (n : Note) (today : Date) (r : Result Float Refusal) → T (fits binary64 n.rate) → outcome_of r ≡ accrued amounts_in_f64 n today → AccruedPromise n today r
 promised n today r held e =
     (e, λ few. subst (λ (o : Outcome Float). Agree CloseAmount o (accrued amounts_exactly n today)) (sym e) (accrued_agrees n today (omega (arith, few)) held))

@@ -1,17 +1,19 @@
 -- No second answer satisfies the entry point's promise; and a refusal's number is never 0.
+use Rattle.std.specs.Prelude.{Result, Float}
 use mathlib.Core.Path.{◌≡◌, sym, ◌∙◌}
 use mathlib.Core.Bool.{true}
 use native.Mathlib.Omega.{arith}
 use Rattle.outcome.proofs.Walks.{walk_numbered}
+use Rattle.outcome.specs.declared.Refusal.{Refusal}
 use Rattle.outcome.specs.Outcome.{given, Numbered}
 use Rattle.outcome.proofs.Outcomes.{unless_numbered, then_numbered, pick_numbered}
+use Rattle.outcome.proofs.Refusals.{same_result}
 use Rattle.calendar.specs.dates.Dates.{is_date, is_before}
 use Rattle.calendar.specs.declared.dates.Date.{Date}
 use Rattle.time_period.specs.steps.Steps.{absent, stepped}
 use Rattle.time_period.proofs.steps.OneOutcome.{step_numbered}
 use Rattle.day_count_conv.specs.conventions.Conventions.{year_fraction}
-use Rattle.day_count_conv.specs.declared.conventions.YearFraction.{YearFraction}
-use Rattle.day_count_conv.proofs.conventions.OneOutcome.{same_fraction_answer, fraction_numbered}
+use Rattle.day_count_conv.proofs.conventions.OneOutcome.{fraction_numbered}
 use Rattle.bond.specs.note.Notes.{note_checks, first_coupon_end}
 use Rattle.bond.specs.declared.note.Note.{Note}
 use Rattle.bond.proofs.note.OneOutcome.{checks_numbered, first_end_numbered}
@@ -19,8 +21,8 @@ use Rattle.accrued_interest.specs.period.PeriodInterest.{elapsed_days, period_da
 use Rattle.accrued_interest.specs.note.Accrued.{running, next_period, goes_on, period_holding, Amounts, amount_due, accrued_in, accrued_from, accrued_on, accrued, AccruedPromise}
 use Rattle.accrued_interest.specs.declared.period.CouponPeriod.{CouponPeriod}
 
-pub one-accrued : (n : Note) (today : Date) (r s : YearFraction) → AccruedPromise n today r → AccruedPromise n today s → r ≡ s
-one-accrued n today r s p q = same_fraction_answer r s (p.0 ∙ sym q.0)
+pub one-accrued : (n : Note) (today : Date) (r s : Result Float Refusal) → AccruedPromise n today r → AccruedPromise n today s → r ≡ s
+one-accrued n today r s p q = same_result r s (p.0 ∙ sym q.0)
 
 -- the number of a refusal of the walk
 holding_numbered : (n : Note) (today : Date) (p : CouponPeriod) → Numbered (period_holding n today p)

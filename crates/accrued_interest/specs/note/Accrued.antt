@@ -1,27 +1,21 @@
 -- Accrued interest on one note: its refusals in their order, its f64, and its exact value. What
 -- accrues in one period is that of `accrued_interest`.
-use Rattle.std.specs.Prelude.{◌≤◌, ◌≡◌, Bool, true, Float}
-use Rattle.outcome.specs.Outcome.{Outcome, given, refused, unless, and_then, pick, both}
+use Rattle.std.specs.Prelude.{◌≤◌, ◌≡◌, Bool, true, Float, Result}
+use Rattle.outcome.specs.Outcome.{Outcome, given, unless, and_then, pick, both}
+use Rattle.outcome.specs.Refusals.{outcome_of}
+use Rattle.outcome.specs.declared.Refusal.{Refusal}
 use Rattle.outcome.specs.Walks.{walked}
 use Rattle.rounding.specs.Close.{Close}
 use Rattle.calendar.specs.dates.Dates.{is_date, is_before}
 use Rattle.calendar.specs.declared.dates.Date.{Date}
 use Rattle.time_period.specs.steps.Steps.{absent, stepped}
 use Rattle.day_fraction.specs.Exact.{Exact}
-use Rattle.day_count_conv.specs.conventions.Conventions.{fraction_outcome, Agree}
-use Rattle.day_count_conv.specs.declared.conventions.YearFraction.{YearFraction}
+use Rattle.day_count_conv.specs.conventions.Conventions.{Agree}
 use Rattle.bond.specs.note.Notes.{note_checks, first_coupon_end}
 use Rattle.bond.specs.declared.note.Note.{Note}
 unfoldable pub use Rattle.accrued_interest.specs.period.PeriodInterest.{amount_due, accrued_in}
 pub use Rattle.accrued_interest.specs.period.PeriodInterest.{Amounts, amounts_in_f64, amounts_exactly}
 use Rattle.accrued_interest.specs.declared.period.CouponPeriod.{CouponPeriod}
-use Rattle.accrued_interest.specs.declared.note.CouponPeriodAnswer.{CouponPeriodAnswer}
-use Rattle.accrued_interest.specs.declared.note.CouponPeriodAnswer.TheVariants as period-answer
-
--- the outcome that an answer is
-abbrev pub coupon_period_outcome : CouponPeriodAnswer → Outcome CouponPeriod
-coupon_period_outcome (period-answer.Period p) = given p
-coupon_period_outcome (period-answer.Refused n) = refused n
 
 -- a period runs from one date to another; the first from the issue date to the first coupon end
 abbrev pub running : Date → Date → CouponPeriod
@@ -63,6 +57,6 @@ CloseAmount x q = Close 100000 x q.num q.den
 -- how far off it is.
 -- The checks judge the rate, and the bound holds for every coupon period, so that neither is asked
 -- for again
-abbrev pub AccruedPromise : Note → Date → YearFraction → Type 0
+abbrev pub AccruedPromise : Note → Date → Result Float Refusal → Type 0
 AccruedPromise n today r =
-    (fraction_outcome r ≡ accrued amounts_in_f64 n today) × (n.denomination ≤ 1000000 → Agree CloseAmount (fraction_outcome r) (accrued amounts_exactly n today))
+    (outcome_of r ≡ accrued amounts_in_f64 n today) × (n.denomination ≤ 1000000 → Agree CloseAmount (outcome_of r) (accrued amounts_exactly n today))

@@ -1,44 +1,24 @@
--- `bit_fields::bytes_number` meets its contract. After each turn n is the number in the bytes so
+-- `bit_fields::bytes_number` meets its contract: after each turn n is the number in the bytes so
 -- far.
-use Prim.Native.Nat.{◌-◌, ◌≤◌, ◌<◌}
-use mathlib.Core.Path.{◌≡◌, sym}
-use native.Mathlib.Nat.{lt_of_lt_of_le}
+use mathlib.Core.Path.{refl}
 use native.Mathlib.Omega.{arith}
-use lib.Pow.{pow_mono}
-use Rattle.bit_fields.specs.Bits.{bytes_number}
-use Rattle.bit_fields.proofs.Bits.{bytes-none, bytes_next, bytes_seven, bytes_below}
+use Rattle.bit_fields.specs.Bits.{fields_bits, continued_bits, bits_of}
+use Rattle.bit_fields.proofs.Bits.{bytes_small, bytes_more}
 use Rattle.bit_fields.proofs.bytes_number.Goals as goal
-use Rattle.bit_fields.proofs.bytes_number.Goals.{In-loop-i}
 
-small : (c : In-loop-i) → c.loop-i.n < 72057594037927936
-small c =
-    let l = c.loop-i in
-    let a = c.args in
-    bytes_seven a.s.now a.first (l.i - a.first) l.n l.invariant.2 (omega arith) (omega arith)
-
-pub loop-i-init : goal.loop-i-init
-loop-i-init c =
-    let a = c.args in
-    let z : a.first - a.first ≡ 0 = omega arith in
-    (omega arith, omega arith, rw (z) (sym (bytes-none a.s.now a.first)))
+pub loop-b-init : goal.loop-b-init
+unfolding bits_of fields_bits continued_bits
+loop-b-init _ = refl
 
 pub overflow_mul-n : goal.overflow_mul-n
-overflow_mul-n c = record { fits = omega (arith, small (goal.at.overflow_mul-n c).In-loop-i) }
+overflow_mul-n c = let l = c.loop-b in record { fits = omega (arith, bytes_small c.args.s.now l.b-index l.n l.invariant (omega arith) (omega arith)) }
 
 pub overflow_add-n : goal.overflow_add-n
-overflow_add-n c = record { fits = omega (arith, small (goal.at.overflow_add-n c).In-loop-i, c.wide.ensures.1) }
+overflow_add-n c =
+    let l = c.loop-b in
+    record { fits = omega (arith, bytes_small c.args.s.now l.b-index l.n l.invariant (omega arith) (omega arith), c.type_inv.s l.b-index) }
 
-pub loop-i-preserved : goal.loop-i-preserved
-loop-i-preserved c =
-    let l = c.loop-i in
-    let a = c.args in
-    (omega arith, omega arith, bytes_next a.s.now a.first l.i l.n c.wide.result l.invariant.0 (omega arith) l.invariant.2 c.wide.ensures.0 c.wide.ensures.1)
-
-pub returns : goal.returns
-returns c =
-    let l = c.loop-i in
-    let a = c.args in
-    let e : l.i ≡ a.end = omega arith in
-    let k : a.end - a.first ≤ 8 = omega arith in
-    let n : l.n ≡ bytes_number a.s.now a.first (a.end - a.first) = rw (← e) l.invariant.2 in
-    (n, rw (n) (lt_of_lt_of_le (bytes_below a.s.now a.first (a.end - a.first) (omega arith)) (pow_mono {j = 64} (omega arith))))
+pub loop-b-preserved : goal.loop-b-preserved
+loop-b-preserved c =
+    let l = c.loop-b in
+    bytes_more c.args.s.now l.b-index l.n c.from.result (omega arith) l.invariant c.from.ensures (omega (arith, c.type_inv.s l.b-index))

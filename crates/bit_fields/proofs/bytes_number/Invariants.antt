@@ -1,10 +1,7 @@
-use Prim.Native.Nat.{◌-◌, ◌≤◌}
 use mathlib.Core.Path.{◌≡◌}
-use Rattle.bit_fields.specs.Bits.{bytes_number}
+use lib.ListN.{take}
+use Rattle.bit_fields.specs.Bits.{bits_number, bits_of}
 use Rattle.bit_fields.proofs.bytes_number.Given as goal
 
-abbrev pub invariant-loop-i : goal.invariant-loop-i
-invariant-loop-i l = (l.first ≤ l.i) × (l.i ≤ l.end) × (l.n ≡ bytes_number l.s l.first (l.i - l.first))
-
-abbrev pub decreases-loop-i : goal.decreases-loop-i
-decreases-loop-i l = l.end - l.i
+abbrev pub invariant-loop-b : goal.invariant-loop-b
+invariant-loop-b l = l.n ≡ bits_number (bits_of (take l.b-index l.s))

@@ -5,4 +5,4 @@ use Rattle.bit_fields.proofs.read_part.Goals as goal
 pub returns : goal.returns
 returns c =
     let a = c.args in
-    field-whole a.s.now a.at a.width _ _ c.bytes_number-n.ensures.0 c.power_of_two.ensures c.requires.2
+    field-whole a.s.now a.at a.width _ _ c.bytes_number-n.ensures c.power_of_two.ensures c.requires.2

@@ -1,21 +1,19 @@
 -- The machine's tests of a rate are the paper's.
 use Prim.Native.Nat.{ℕ, ◌/◌, ◌%◌, ◌^◌, ◌<◌, ◌≤◌}
 use mathlib.Core.Path.{◌≡◌, refl, sym, ap, ◌∙◌, subst}
-use mathlib.Core.Bool.{true, false, true≢false}
+use mathlib.Core.Bool.{true, false, true≢false, false≢true}
 use mathlib.Core.Logic.{◌⊎◌, inl, inr, ⊎_elim}
 use native.Mathlib.Omega.{arith}
 use lib.Dec.{T, leb}
 use lib.IntN.{ℤ, pos}
-use lib.Ieee.{Float, nan, inf, fin, binary64, of_fields, of_bits, to_bits, of_int, fits, ne, le}
+use lib.Ieee.{Float, nan, inf, fin, binary64, of_fields, of_bits, to_bits, of_int, fits, is_nan, le}
 use lib.Ieee.Bits.{of_bits-to_bits, to_bits-lt}
-use lib.Ieee.Compare.{differs_from_itself}
 use lib.Ieee.Scale.{finite}
 use borrow.Author.Tests.{le-leb, lt-leb}
-use Rattle.outcome.proofs.Numbers.{lt_or_le, next_up}
+use Rattle.outcome.proofs.Numbers.{lt_or_le}
 use Rattle.rounding.proofs.Fields.{not_finite, is_finite}
 use Rattle.cash_flow.proofs.currency.Limits.{plus_most}
-use Rattle.bond.specs.limits.Limits.{is_note_number, is_coupon_rate}
-use Rattle.bond.specs.declared.limits.NoteNumber.{NoteNumber}
+use Rattle.bond.specs.limits.Limits.{is_coupon_rate}
 
 -- ---- a rate
 
@@ -68,30 +66,21 @@ hundred m e = rw hundred_is (plus_most 25 100 (pos 2) refl refl m e)
 pub low-rate : (b : ℕ) → b < 9218868437227405312 → le (of_bits binary64 b) (of_bits binary64 4636737291354636288) ≡ is_coupon_rate (of_bits binary64 b)
 low-rate b h = let z = low_bits b h in rw z.2 (hundred z.0 z.1)
 
--- a number that differs from itself is no rate
-pub nan_no_rate : (x : Float) → ne x x ≡ true → false ≡ is_coupon_rate x
-unfolding is_coupon_rate
-nan_no_rate x e = rw (differs_from_itself x (subst T (sym e) tt))
+-- a NaN is no rate
+pub nan_no_rate : (x : Float) → is_nan x ≡ true → false ≡ is_coupon_rate x
+unfolding is_coupon_rate is_nan
+nan_no_rate nan e = refl
+nan_no_rate (inf s) e = absurd (false≢true e)
+nan_no_rate (fin s m d) e = absurd (false≢true e)
 
 -- and the same of the number whose bits they are
 pub rate_high : (x : Float) → T (fits binary64 x) → 9218868437227405312 ≤ to_bits binary64 x → false ≡ is_coupon_rate x
 rate_high x f h = sym (high_bits (to_bits binary64 x) h (to_bits-lt binary64 x f)) ∙ ap is_coupon_rate (of_bits-to_bits binary64 x f)
 
-pub rate-low : (x : Float) → T (fits binary64 x) → to_bits binary64 x < 9218868437227405312 → le x (of_bits binary64 4636737291354636288) ≡ is_coupon_rate x
-rate-low x f h =
+pub rate_low : (x : Float) → T (fits binary64 x) → to_bits binary64 x < 9218868437227405312 → le x (of_bits binary64 4636737291354636288) ≡ is_coupon_rate x
+rate_low x f h =
     subst (λ (y : Float). le y (of_bits binary64 4636737291354636288) ≡ is_coupon_rate y) (of_bits-to_bits binary64 x f)
     (low-rate (to_bits binary64 x) h)
-
--- ---- a note's number
-
--- a count that is none of 1 to 10 is no number's
-pub none_to_ten : (n : ℕ) → (n ≡ 1 → ⊥) → (n ≡ 2 → ⊥) → (n ≡ 3 → ⊥) → (n ≡ 4 → ⊥) → (n ≡ 5 → ⊥) → (n ≡ 6 → ⊥) → (n ≡ 7 → ⊥) → (n ≡ 8 → ⊥) → (n ≡ 9 → ⊥) → (n ≡ 10 → ⊥) → (n < 1) ⊎ (10 < n)
-none_to_ten n q1 q2 q3 q4 q5 q6 q7 q8 q9 q10 = ⊎_elim (λ l. inl l) (λ h. inr (next_up 10 n (next_up 9 n (next_up 8 n (next_up 7 n (next_up 6 n (next_up 5 n (next_up 4 n (next_up 3 n (next_up 2 n (next_up 1 n h q1) q2) q3) q4) q5) q6) q7) q8) q9) q10)) (lt_or_le n 1)
-
-pub no_count : (n : NoteNumber) → (n.count < 1) ⊎ (10 < n.count) → false ≡ is_note_number n
-unfolding is_note_number
-no_count n (inl l) = rw (lt-leb 1 n.count l)
-no_count n (inr l) = rw (le-leb 1 n.count (omega arith), lt-leb n.count 10 l)
 
 -- the literal 100.0 is the whole number 100
 pub hundred_whole : of_bits binary64 4636737291354636288 ≡ of_int binary64 (pos 100)

@@ -1,41 +1,39 @@
 -- No second answer satisfies an entry point's promise; and a refusal's number is never 0.
-use mathlib.Core.Path.{◌≡◌, refl, sym, ◌∙◌}
+use Rattle.calendar.specs.declared.dates.Date.{Date}
+use Rattle.std.specs.Prelude.{Result}
+use mathlib.Core.Path.{◌≡◌, sym, ◌∙◌}
 use mathlib.Core.Bool.{Bool, true, not}
 use native.Mathlib.Omega.{arith}
 use lib.IntN.{pos}
 use lib.Signed.{le_z}
 use lib.Ieee.{Float}
 use Rattle.outcome.specs.Outcome.{Numbered, both}
-use Rattle.outcome.proofs.Outcomes.{unless_numbered, then_numbered, one_value, answer_of, one_answer, Returns, returns}
+use Rattle.outcome.specs.Refusals.{outcome_of}
+use Rattle.outcome.specs.declared.Refusal.{Refusal}
+use Rattle.outcome.proofs.Outcomes.{unless_numbered, then_numbered, one_value, Returns, returns}
+use Rattle.outcome.proofs.Refusals.{same_result}
 use Rattle.calendar.specs.dates.Dates.{is_date}
-use Rattle.calendar.specs.declared.serial.DateAnswer.{DateAnswer}
-use Rattle.calendar.proofs.dates.OneOutcome.{same_date_answer}
 use Rattle.date_step.specs.Steps.{existing_date}
 use Rattle.time_period.specs.steps.Steps.{needs_table}
 use Rattle.coupon_date.specs.Coupons.{coupon_date_of}
 use Rattle.coupon_date.proofs.OneOutcome.{new_numbered}
 use Rattle.cash_flow.specs.currency.Amounts.{is_currency}
 use Rattle.bond.specs.limits.Limits.{is_note_number, is_coupon_rate}
-use Rattle.bond.specs.note.Notes.{note_outcome, note_zero, note_returned, interest_on, nominal_of, coupon_amount, period_checks, term_checks, note_checks, in_year_of, first_coupon_end, PositionPromise, ChecksPromise, NotePromise, FirstEndPromise}
+use Rattle.bond.specs.note.Notes.{note_zero, note_returned, interest_on, nominal_of, coupon_amount, period_checks, term_checks, note_checks, in_year_of, first_coupon_end, PositionPromise, ChecksPromise, NotePromise, FirstEndPromise}
 use Rattle.bond.specs.declared.note.Note.{Note}
-use Rattle.bond.specs.declared.note.NoteAnswer.{NoteAnswer}
-use Rattle.bond.specs.declared.note.NoteAnswer.TheVariants as note-answer
-
-pub same_note_answer : (r s : NoteAnswer) → note_outcome r ≡ note_outcome s → r ≡ s
-same_note_answer r s e = one_answer note_outcome note-answer.Note note-answer.Refused (λ x. elim x as (λ y. answer_of note-answer.Note note-answer.Refused (note_outcome y) ≡ y) [ note-answer.Note v ↦ refl | note-answer.Refused n ↦ refl ]) r s e
 
 -- a refusal returns its number and the zero
-pub note-returned : Returns note_outcome note_zero note_returned
-note-returned = returns note_outcome note_zero
+pub note-returned : Returns outcome_of note_zero note_returned
+note-returned = returns outcome_of note_zero
 
-pub one_checks : (position table : Bool) (n : Note) (r s : NoteAnswer) → ChecksPromise position table n r → ChecksPromise position table n s → r ≡ s
-one_checks position table n r s p q = same_note_answer r s (p ∙ sym q)
+pub one_checks : (position table : Bool) (n : Note) (r s : Result Note Refusal) → ChecksPromise position table n r → ChecksPromise position table n s → r ≡ s
+one_checks position table n r s p q = same_result r s (p ∙ sym q)
 
-pub one-note : (n : Note) (r s : NoteAnswer) → NotePromise n r → NotePromise n s → r ≡ s
+pub one-note : (n : Note) (r s : Result Note Refusal) → NotePromise n r → NotePromise n s → r ≡ s
 one-note n r s p q = one_checks true true n r s p q
 
-pub one_first_end : (n : Note) (r s : DateAnswer) → FirstEndPromise n r → FirstEndPromise n s → r ≡ s
-one_first_end n r s p q = same_date_answer r s (p ∙ sym q)
+pub one_first_end : (n : Note) (r s : Result Date Refusal) → FirstEndPromise n r → FirstEndPromise n s → r ≡ s
+one_first_end n r s p q = same_result r s (p ∙ sym q)
 
 pub checks_numbered : (position table : Bool) (n : Note) → Numbered (note_checks position table n)
 unfolding note_checks term_checks period_checks

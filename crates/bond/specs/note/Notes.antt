@@ -1,14 +1,15 @@
 -- The note: its checks in their order, its first coupon end, and the amounts it pays.
-use Rattle.std.specs.Prelude.{ℕ, ◌+◌, ◌*◌, ◌≡◌, Bool, true, not, ltb, pos, ◌*ℤ◌, Float}
+use Rattle.std.specs.Prelude.{ℕ, ◌+◌, ◌*◌, ◌≡◌, Bool, true, not, ltb, pos, ◌*ℤ◌, Float, Result}
 use Rattle.std.specs.Int.Signed.{le_z}
 use Rattle.std.specs.Float.{binary64}
 use Rattle.std.specs.Float.Ieee.{mul, div, of_int}
-use Rattle.outcome.specs.Outcome.{Outcome, given, refused, returned, plus_zero, unless, and_then, pick, both}
+use Rattle.outcome.specs.Outcome.{Outcome, given, returned, plus_zero, unless, and_then, pick, both}
+use Rattle.outcome.specs.Refusals.{outcome_of}
+use Rattle.outcome.specs.declared.Refusal.{Refusal}
 use Rattle.rounding.specs.Close.{numerator, denominator}
 use Rattle.calendar.specs.dates.Dates.{is_date}
-use Rattle.calendar.specs.serial.Answers.{date_outcome, date_zero}
+use Rattle.calendar.specs.serial.Answers.{date_zero}
 use Rattle.calendar.specs.declared.dates.Date.{Date}
-use Rattle.calendar.specs.declared.serial.DateAnswer.{DateAnswer}
 use Rattle.date_step.specs.Steps.{existing_date}
 use Rattle.day_adjust.specs.declared.DayAdjust.TheVariants as rule
 use Rattle.time_period.specs.steps.Periods.{period_zero}
@@ -19,15 +20,8 @@ use Rattle.coupon_date.specs.Coupons.{coupon_zero, coupon_date_of}
 use Rattle.coupon_date.specs.declared.CouponDate.{CouponDate}
 use Rattle.cash_flow.specs.currency.Amounts.{is_currency, up_to}
 use Rattle.bond.specs.declared.note.Note.{Note}
-use Rattle.bond.specs.declared.note.NoteAnswer.{NoteAnswer}
-use Rattle.bond.specs.declared.note.NoteAnswer.TheVariants as note-answer
 -- the limits of its number and of its rate, passed on beside the checks that cite them
 unfoldable pub use Rattle.bond.specs.limits.Limits.{is_note_number, is_coupon_rate}
-
--- the outcome that an answer is
-abbrev pub note_outcome : NoteAnswer → Outcome Note
-note_outcome (note-answer.Note n) = given n
-note_outcome (note-answer.Refused n) = refused n
 
 -- its zero: every number 0, and of each list what document 01 packs as 0
 abbrev pub note_zero : Note
@@ -45,8 +39,8 @@ note_zero = record {
 }
 
 -- what is returned of it
-abbrev pub note_returned : NoteAnswer → ℕ × Note
-note_returned r = returned note_zero (note_outcome r)
+abbrev pub note_returned : Result Note Refusal → ℕ × Note
+note_returned r = returned note_zero (outcome_of r)
 
 -- position: finite, from -1e9 to 1e9
 unfoldable pub is_position : Float → Bool
@@ -102,11 +96,11 @@ coupon_amount position n fraction = interest_on (nominal_of position n) n.rate f
 abbrev pub PositionPromise : Float → Bool → Type 0
 PositionPromise x r = r ≡ is_position x
 
-abbrev pub ChecksPromise : Bool → Bool → Note → NoteAnswer → Type 0
-ChecksPromise position table n r = note_outcome r ≡ note_checks position table n
+abbrev pub ChecksPromise : Bool → Bool → Note → Result Note Refusal → Type 0
+ChecksPromise position table n r = outcome_of r ≡ note_checks position table n
 
-abbrev pub NotePromise : Note → NoteAnswer → Type 0
+abbrev pub NotePromise : Note → Result Note Refusal → Type 0
 NotePromise n r = ChecksPromise true true n r
 
-abbrev pub FirstEndPromise : Note → DateAnswer → Type 0
-FirstEndPromise n r = date_outcome r ≡ first_coupon_end n
+abbrev pub FirstEndPromise : Note → Result Date Refusal → Type 0
+FirstEndPromise n r = outcome_of r ≡ first_coupon_end n

@@ -1,48 +1,45 @@
 -- No second outcome satisfies what an entry point promises: each answer is told by its outcome.
+use Rattle.std.specs.Prelude.{Result}
 use Prim.Native.Nat.{ℕ, zero, suc, ◌+◌, ◌-◌}
-use mathlib.Core.Path.{◌≡◌, refl, sym, ◌∙◌}
+use mathlib.Core.Path.{◌≡◌, sym, ◌∙◌}
 use mathlib.Core.List.{List}
 use mathlib.Core.Bool.{Bool, false}
 use native.Mathlib.Omega.{arith}
 use Rattle.outcome.specs.Outcome.{Outcome, Numbered, given}
-use Rattle.outcome.proofs.Outcomes.{answer_of, one_answer, Returns, returns, unless_numbered, then_numbered, elim_numbered}
+use Rattle.outcome.specs.Refusals.{outcome_of}
+use Rattle.outcome.specs.declared.Refusal.{Refusal}
+use Rattle.outcome.proofs.Outcomes.{Returns, returns, unless_numbered, then_numbered, elim_numbered}
+use Rattle.outcome.proofs.Refusals.{same_result}
 use Rattle.calendar.specs.dates.Dates.{is_day}
 use Rattle.calendar.specs.declared.dates.Day.{Day}
-use Rattle.calendar.specs.declared.serial.DayAnswer.{DayAnswer}
-use Rattle.calendar.proofs.dates.OneOutcome.{same_day_answer}
-use Rattle.business_days.specs.days.Answers.{judged, business_outcome, business_returned, TablePromise, BusinessPromise, NextPromise, PreviousPromise, LaterPromise, EarlierPromise}
+use Rattle.business_days.specs.days.Answers.{judged, business_returned, TablePromise, BusinessPromise, NextPromise, PreviousPromise, LaterPromise, EarlierPromise}
 use Rattle.business_days.specs.table.Table.{is_table}
 use Rattle.business_days.specs.table.Business.{serial_day, is_business, first_of, next_from, last_of, prev_from, repeated}
-use Rattle.business_days.specs.declared.days.BusinessAnswer.{BusinessAnswer}
-use Rattle.business_days.specs.declared.days.BusinessAnswer.TheVariants as business-answer
-
-pub same_business_answer : (r s : BusinessAnswer) → business_outcome r ≡ business_outcome s → r ≡ s
-same_business_answer r s e = one_answer business_outcome business-answer.Business business-answer.Refused (λ x. elim x as (λ y. answer_of business-answer.Business business-answer.Refused (business_outcome y) ≡ y) [ business-answer.Business v ↦ refl | business-answer.Refused n ↦ refl ]) r s e
 
 -- a refusal returns its number and the zero
-pub business_returned_lem : Returns business_outcome false business_returned
-business_returned_lem = returns business_outcome false
+pub business_returned_lem : Returns outcome_of false business_returned
+business_returned_lem = returns outcome_of false
 
 module _ (t : List ℕ) where
   pub one_table : (r s : Bool) → TablePromise t r → TablePromise t s → r ≡ s
   one_table r s p q = p ∙ sym q
 
   module _ (d : Day) where
-    pub one_business : (r s : BusinessAnswer) → BusinessPromise d t r → BusinessPromise d t s → r ≡ s
-    one_business r s p q = same_business_answer r s (p ∙ sym q)
+    pub one_business : (r s : Result Bool Refusal) → BusinessPromise d t r → BusinessPromise d t s → r ≡ s
+    one_business r s p q = same_result r s (p ∙ sym q)
 
-    module _ (r s : DayAnswer) where
+    module _ (r s : Result Day Refusal) where
       pub one-next : NextPromise d t r → NextPromise d t s → r ≡ s
-      one-next p q = same_day_answer r s (p ∙ sym q)
+      one-next p q = same_result r s (p ∙ sym q)
 
       pub one_previous : PreviousPromise d t r → PreviousPromise d t s → r ≡ s
-      one_previous p q = same_day_answer r s (p ∙ sym q)
+      one_previous p q = same_result r s (p ∙ sym q)
 
       pub one_later : (k : ℕ) → LaterPromise d k t r → LaterPromise d k t s → r ≡ s
-      one_later k p q = same_day_answer r s (p ∙ sym q)
+      one_later k p q = same_result r s (p ∙ sym q)
 
       pub one_earlier : (k : ℕ) → EarlierPromise d k t r → EarlierPromise d k t s → r ≡ s
-      one_earlier k p q = same_day_answer r s (p ∙ sym q)
+      one_earlier k p q = same_result r s (p ∙ sym q)
 
 -- every refusal has its number
 first_numbered : (left : ℕ) (t : List ℕ) (n : ℕ) → Numbered (first_of left t n)

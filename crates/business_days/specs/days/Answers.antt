@@ -1,24 +1,17 @@
 -- What each entry point of `business_days` answers, on every input, and what it
 -- promises.
-use Rattle.std.specs.Prelude.{ℕ, ◌≡◌, Bool, false, List}
-use Rattle.outcome.specs.Outcome.{Outcome, given, refused, returned, unless}
+use Rattle.std.specs.Prelude.{ℕ, ◌≡◌, Bool, false, List, Result}
+use Rattle.outcome.specs.Outcome.{Outcome, given, returned, unless}
+use Rattle.outcome.specs.Refusals.{outcome_of}
+use Rattle.outcome.specs.declared.Refusal.{Refusal}
 use Rattle.calendar.specs.dates.Dates.{is_day}
-use Rattle.calendar.specs.serial.Answers.{day_outcome}
 use Rattle.calendar.specs.declared.dates.Day.{Day}
-use Rattle.calendar.specs.declared.serial.DayAnswer.{DayAnswer}
 use Rattle.business_days.specs.table.Table.{is_table}
 use Rattle.business_days.specs.table.Business.{is_business, next_from, prev_from, later_from, earlier_from}
-use Rattle.business_days.specs.declared.days.BusinessAnswer.{BusinessAnswer}
-use Rattle.business_days.specs.declared.days.BusinessAnswer.TheVariants as business-answer
-
--- the outcome that an answer is
-abbrev pub business_outcome : BusinessAnswer → Outcome Bool
-business_outcome (business-answer.Business b) = given b
-business_outcome (business-answer.Refused n) = refused n
 
 -- what is returned of it; the zero is no
-abbrev pub business_returned : BusinessAnswer → ℕ × Bool
-business_returned r = returned false (business_outcome r)
+abbrev pub business_returned : Result Bool Refusal → ℕ × Bool
+business_returned r = returned false (outcome_of r)
 
 -- the order: 1 for the date, 13 for the table, then what the search answers
 abbrev pub judged : {A : Type 0} → Day → List ℕ → Outcome A → Outcome A
@@ -47,17 +40,17 @@ bdays_earlier d k t = judged d t (earlier_from t k d.0)
 abbrev pub TablePromise : List ℕ → Bool → Type 0
 TablePromise t r = r ≡ is_table t
 
-abbrev pub BusinessPromise : Day → List ℕ → BusinessAnswer → Type 0
-BusinessPromise d t r = business_outcome r ≡ is_business_day d t
+abbrev pub BusinessPromise : Day → List ℕ → Result Bool Refusal → Type 0
+BusinessPromise d t r = outcome_of r ≡ is_business_day d t
 
-abbrev pub NextPromise : Day → List ℕ → DayAnswer → Type 0
-NextPromise d t r = day_outcome r ≡ next_bday d t
+abbrev pub NextPromise : Day → List ℕ → Result Day Refusal → Type 0
+NextPromise d t r = outcome_of r ≡ next_bday d t
 
-abbrev pub PreviousPromise : Day → List ℕ → DayAnswer → Type 0
-PreviousPromise d t r = day_outcome r ≡ prev_bday d t
+abbrev pub PreviousPromise : Day → List ℕ → Result Day Refusal → Type 0
+PreviousPromise d t r = outcome_of r ≡ prev_bday d t
 
-abbrev pub LaterPromise : Day → ℕ → List ℕ → DayAnswer → Type 0
-LaterPromise d k t r = day_outcome r ≡ bdays_later d k t
+abbrev pub LaterPromise : Day → ℕ → List ℕ → Result Day Refusal → Type 0
+LaterPromise d k t r = outcome_of r ≡ bdays_later d k t
 
-abbrev pub EarlierPromise : Day → ℕ → List ℕ → DayAnswer → Type 0
-EarlierPromise d k t r = day_outcome r ≡ bdays_earlier d k t
+abbrev pub EarlierPromise : Day → ℕ → List ℕ → Result Day Refusal → Type 0
+EarlierPromise d k t r = outcome_of r ≡ bdays_earlier d k t

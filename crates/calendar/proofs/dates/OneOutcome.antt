@@ -1,49 +1,34 @@
 -- No second answer satisfies an entry point's promise; and a refusal's number is never 0.
+use Prim.Native.Nat.{ℕ}
+use Rattle.std.specs.Prelude.{Result}
 use Prim.Native.Nat.{◌+◌}
-use mathlib.Core.Path.{◌≡◌, refl, sym, ◌∙◌}
+use mathlib.Core.Path.{◌≡◌, sym, ◌∙◌}
 use mathlib.Core.Bool.{Bool}
 use native.Mathlib.Omega.{arith}
 use lib.Dec.{leb}
 use Rattle.outcome.specs.Outcome.{Numbered, both}
-use Rattle.outcome.proofs.Outcomes.{unless_numbered, one_value, answer_of, one_answer, Returns, returns}
+use Rattle.outcome.specs.Refusals.{outcome_of}
+use Rattle.outcome.specs.declared.Refusal.{Refusal}
+use Rattle.outcome.proofs.Outcomes.{unless_numbered, one_value, Returns, returns}
+use Rattle.outcome.proofs.Refusals.{same_result}
 use Rattle.calendar.specs.dates.Dates.{is_date, is_day, IsDatePromise, IsDayPromise, BeforePromise, SamePromise}
-use Rattle.calendar.specs.serial.Answers.{day_outcome, days_outcome, date_outcome, weekday_outcome, day_zero, days_zero, date_zero, day_returned, days_returned, date_returned, weekday_returned, day_of, date_of, weekday_of, days_between, day_after, DayOfPromise, DateOfPromise, WeekdayPromise, DaysBetweenPromise, DayAfterPromise}
+use Rattle.calendar.specs.serial.Answers.{day_zero, days_zero, date_zero, day_returned, days_returned, date_returned, weekday_returned, day_of, date_of, weekday_of, days_between, day_after, DayOfPromise, DateOfPromise, WeekdayPromise, DaysBetweenPromise, DayAfterPromise}
 use Rattle.calendar.specs.declared.dates.Day.{Day}
 use Rattle.calendar.specs.declared.dates.Days.{Days}
 use Rattle.calendar.specs.declared.dates.Date.{Date}
-use Rattle.calendar.specs.declared.serial.DayAnswer.{DayAnswer}
-use Rattle.calendar.specs.declared.serial.DayAnswer.TheVariants as day-answer
-use Rattle.calendar.specs.declared.serial.DaysAnswer.{DaysAnswer}
-use Rattle.calendar.specs.declared.serial.DaysAnswer.TheVariants as days-answer
-use Rattle.calendar.specs.declared.serial.DateAnswer.{DateAnswer}
-use Rattle.calendar.specs.declared.serial.DateAnswer.TheVariants as date-answer
-use Rattle.calendar.specs.declared.serial.WeekdayAnswer.{WeekdayAnswer}
-use Rattle.calendar.specs.declared.serial.WeekdayAnswer.TheVariants as weekday-answer
-
-pub same_day_answer : (r s : DayAnswer) → day_outcome r ≡ day_outcome s → r ≡ s
-same_day_answer r s e = one_answer day_outcome day-answer.Day day-answer.Refused (λ x. elim x as (λ y. answer_of day-answer.Day day-answer.Refused (day_outcome y) ≡ y) [ day-answer.Day v ↦ refl | day-answer.Refused n ↦ refl ]) r s e
-
-pub same_days_answer : (r s : DaysAnswer) → days_outcome r ≡ days_outcome s → r ≡ s
-same_days_answer r s e = one_answer days_outcome days-answer.Days days-answer.Refused (λ x. elim x as (λ y. answer_of days-answer.Days days-answer.Refused (days_outcome y) ≡ y) [ days-answer.Days v ↦ refl | days-answer.Refused n ↦ refl ]) r s e
-
-pub same_date_answer : (r s : DateAnswer) → date_outcome r ≡ date_outcome s → r ≡ s
-same_date_answer r s e = one_answer date_outcome date-answer.Date date-answer.Refused (λ x. elim x as (λ y. answer_of date-answer.Date date-answer.Refused (date_outcome y) ≡ y) [ date-answer.Date v ↦ refl | date-answer.Refused n ↦ refl ]) r s e
-
-pub same_weekday_answer : (r s : WeekdayAnswer) → weekday_outcome r ≡ weekday_outcome s → r ≡ s
-same_weekday_answer r s e = one_answer weekday_outcome weekday-answer.Weekday weekday-answer.Refused (λ x. elim x as (λ y. answer_of weekday-answer.Weekday weekday-answer.Refused (weekday_outcome y) ≡ y) [ weekday-answer.Weekday v ↦ refl | weekday-answer.Refused n ↦ refl ]) r s e
 
 -- a refusal returns its number and the zero
-pub day-returned : Returns day_outcome day_zero day_returned
-day-returned = returns day_outcome day_zero
+pub day-returned : Returns outcome_of day_zero day_returned
+day-returned = returns outcome_of day_zero
 
-pub days-returned : Returns days_outcome days_zero days_returned
-days-returned = returns days_outcome days_zero
+pub days-returned : Returns outcome_of days_zero days_returned
+days-returned = returns outcome_of days_zero
 
-pub date-returned : Returns date_outcome date_zero date_returned
-date-returned = returns date_outcome date_zero
+pub date-returned : Returns outcome_of date_zero date_returned
+date-returned = returns outcome_of date_zero
 
-pub weekday_returned_lem : Returns weekday_outcome 0 weekday_returned
-weekday_returned_lem = returns weekday_outcome 0
+pub weekday_returned_lem : Returns outcome_of 0 weekday_returned
+weekday_returned_lem = returns outcome_of 0
 
 -- one answer to each question
 pub one-is_date : (t : Date) (r s : Bool) → IsDatePromise t r → IsDatePromise t s → r ≡ s
@@ -58,20 +43,20 @@ one-is_before a b r s p q = one_value r s p q
 pub one-is_same : (a b : Date) (r s : Bool) → SamePromise a b r → SamePromise a b s → r ≡ s
 one-is_same a b r s p q = one_value r s p q
 
-pub one-day_of : (t : Date) (r s : DayAnswer) → DayOfPromise t r → DayOfPromise t s → r ≡ s
-one-day_of t r s p q = same_day_answer r s (p ∙ sym q)
+pub one-day_of : (t : Date) (r s : Result Day Refusal) → DayOfPromise t r → DayOfPromise t s → r ≡ s
+one-day_of t r s p q = same_result r s (p ∙ sym q)
 
-pub one-date_of : (d : Day) (r s : DateAnswer) → DateOfPromise d r → DateOfPromise d s → r ≡ s
-one-date_of d r s p q = same_date_answer r s (p ∙ sym q)
+pub one-date_of : (d : Day) (r s : Result Date Refusal) → DateOfPromise d r → DateOfPromise d s → r ≡ s
+one-date_of d r s p q = same_result r s (p ∙ sym q)
 
-pub one_weekday : (d : Day) (r s : WeekdayAnswer) → WeekdayPromise d r → WeekdayPromise d s → r ≡ s
-one_weekday d r s p q = same_weekday_answer r s (p ∙ sym q)
+pub one_weekday : (d : Day) (r s : Result ℕ Refusal) → WeekdayPromise d r → WeekdayPromise d s → r ≡ s
+one_weekday d r s p q = same_result r s (p ∙ sym q)
 
-pub one-days_between : (a b : Day) (r s : DaysAnswer) → DaysBetweenPromise a b r → DaysBetweenPromise a b s → r ≡ s
-one-days_between a b r s p q = same_days_answer r s (p ∙ sym q)
+pub one-days_between : (a b : Day) (r s : Result Days Refusal) → DaysBetweenPromise a b r → DaysBetweenPromise a b s → r ≡ s
+one-days_between a b r s p q = same_result r s (p ∙ sym q)
 
-pub one-day_after : (d : Day) (n : Days) (r s : DayAnswer) → DayAfterPromise d n r → DayAfterPromise d n s → r ≡ s
-one-day_after d n r s p q = same_day_answer r s (p ∙ sym q)
+pub one-day_after : (d : Day) (n : Days) (r s : Result Day Refusal) → DayAfterPromise d n r → DayAfterPromise d n s → r ≡ s
+one-day_after d n r s p q = same_result r s (p ∙ sym q)
 
 -- every refusal has its number
 pub day_of_numbered : (t : Date) → Numbered (day_of t)

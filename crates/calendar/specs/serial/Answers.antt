@@ -1,35 +1,12 @@
 -- What each entry point of `calendar` answers, on every input.
-use Rattle.std.specs.Prelude.{ℕ, ◌+◌, ◌-◌, ◌%◌, ◌≡◌, leb}
-use Rattle.outcome.specs.Outcome.{Outcome, given, refused, returned, unless, both}
+use Rattle.std.specs.Prelude.{ℕ, ◌+◌, ◌-◌, ◌%◌, ◌≡◌, leb, Result}
+use Rattle.outcome.specs.Outcome.{Outcome, given, returned, unless, both}
+use Rattle.outcome.specs.Refusals.{outcome_of}
+use Rattle.outcome.specs.declared.Refusal.{Refusal}
 use Rattle.calendar.specs.dates.Dates.{is_date, is_day, day_number, the_date}
 use Rattle.calendar.specs.declared.dates.Day.{Day}
 use Rattle.calendar.specs.declared.dates.Days.{Days}
 use Rattle.calendar.specs.declared.dates.Date.{Date}
-use Rattle.calendar.specs.declared.serial.DayAnswer.{DayAnswer}
-use Rattle.calendar.specs.declared.serial.DayAnswer.TheVariants as day-answer
-use Rattle.calendar.specs.declared.serial.DaysAnswer.{DaysAnswer}
-use Rattle.calendar.specs.declared.serial.DaysAnswer.TheVariants as days-answer
-use Rattle.calendar.specs.declared.serial.DateAnswer.{DateAnswer}
-use Rattle.calendar.specs.declared.serial.DateAnswer.TheVariants as date-answer
-use Rattle.calendar.specs.declared.serial.WeekdayAnswer.{WeekdayAnswer}
-use Rattle.calendar.specs.declared.serial.WeekdayAnswer.TheVariants as weekday-answer
-
--- the outcome that each answer is
-abbrev pub day_outcome : DayAnswer → Outcome Day
-day_outcome (day-answer.Day d) = given d
-day_outcome (day-answer.Refused n) = refused n
-
-abbrev pub days_outcome : DaysAnswer → Outcome Days
-days_outcome (days-answer.Days s) = given s
-days_outcome (days-answer.Refused n) = refused n
-
-abbrev pub date_outcome : DateAnswer → Outcome Date
-date_outcome (date-answer.Date t) = given t
-date_outcome (date-answer.Refused n) = refused n
-
-abbrev pub weekday_outcome : WeekdayAnswer → Outcome ℕ
-weekday_outcome (weekday-answer.Weekday w) = given w
-weekday_outcome (weekday-answer.Refused n) = refused n
 
 -- the zeros, and what is returned of each answer
 abbrev pub day_zero : Day
@@ -41,17 +18,17 @@ days_zero = record { 0 = 0 }
 abbrev pub date_zero : Date
 date_zero = record { year = 0; month = 0; day = 0 }
 
-abbrev pub day_returned : DayAnswer → ℕ × Day
-day_returned r = returned day_zero (day_outcome r)
+abbrev pub day_returned : Result Day Refusal → ℕ × Day
+day_returned r = returned day_zero (outcome_of r)
 
-abbrev pub days_returned : DaysAnswer → ℕ × Days
-days_returned r = returned days_zero (days_outcome r)
+abbrev pub days_returned : Result Days Refusal → ℕ × Days
+days_returned r = returned days_zero (outcome_of r)
 
-abbrev pub date_returned : DateAnswer → ℕ × Date
-date_returned r = returned date_zero (date_outcome r)
+abbrev pub date_returned : Result Date Refusal → ℕ × Date
+date_returned r = returned date_zero (outcome_of r)
 
-abbrev pub weekday_returned : WeekdayAnswer → ℕ × ℕ
-weekday_returned r = returned 0 (weekday_outcome r)
+abbrev pub weekday_returned : Result ℕ Refusal → ℕ × ℕ
+weekday_returned r = returned 0 (outcome_of r)
 
 -- 1: no such date
 unfoldable pub day_of : Date → Outcome Day
@@ -74,17 +51,17 @@ unfoldable pub day_after : Day → Days → Outcome Day
 day_after d s = unless (both (is_day d) (leb (d.0 + s.0) 3652059)) 1 (given (record { 0 = d.0 + s.0 }))
 
 -- what the entry points promise of their result r
-abbrev pub DayOfPromise : Date → DayAnswer → Type 0
-DayOfPromise t r = day_outcome r ≡ day_of t
+abbrev pub DayOfPromise : Date → Result Day Refusal → Type 0
+DayOfPromise t r = outcome_of r ≡ day_of t
 
-abbrev pub DateOfPromise : Day → DateAnswer → Type 0
-DateOfPromise d r = date_outcome r ≡ date_of d
+abbrev pub DateOfPromise : Day → Result Date Refusal → Type 0
+DateOfPromise d r = outcome_of r ≡ date_of d
 
-abbrev pub WeekdayPromise : Day → WeekdayAnswer → Type 0
-WeekdayPromise d r = weekday_outcome r ≡ weekday_of d
+abbrev pub WeekdayPromise : Day → Result ℕ Refusal → Type 0
+WeekdayPromise d r = outcome_of r ≡ weekday_of d
 
-abbrev pub DaysBetweenPromise : Day → Day → DaysAnswer → Type 0
-DaysBetweenPromise a b r = days_outcome r ≡ days_between a b
+abbrev pub DaysBetweenPromise : Day → Day → Result Days Refusal → Type 0
+DaysBetweenPromise a b r = outcome_of r ≡ days_between a b
 
-abbrev pub DayAfterPromise : Day → Days → DayAnswer → Type 0
-DayAfterPromise d n r = day_outcome r ≡ day_after d n
+abbrev pub DayAfterPromise : Day → Days → Result Day Refusal → Type 0
+DayAfterPromise d n r = outcome_of r ≡ day_after d n

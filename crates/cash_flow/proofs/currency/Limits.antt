@@ -55,22 +55,22 @@ minus_billion_is = refl
 some : (e : ℤ) → 0 < 1953125 * up (pos 9) * down e
 some e = mul-pos (omega arith) (down_pos e)
 
-inside : (x : Float) → le x (fin false 1953125 (pos 9)) ≡ true → le (fin true 1953125 (pos 9)) x ≡ up_to 1000000000 x
+inside : (x : Float) → le (fin true 1953125 (pos 9)) x ≡ true → le x (fin false 1953125 (pos 9)) ≡ up_to 1000000000 x
 unfolding le lt eq
 inside nan h = absurd (false≢true h)
-inside (inf true) h = refl
-inside (inf false) h = absurd (false≢true h)
-inside (fin false m e) h = opposite 1953125 m (pos 9) e (omega (arith, some e)) ∙ sym h ∙ plus_most 1953125 1000000000 (pos 9) refl refl m e
-inside (fin true m e) h = minus_least 1953125 1000000000 (pos 9) refl refl m e
+inside (inf true) h = absurd (false≢true h)
+inside (inf false) h = refl
+inside (fin false m e) h = plus_most 1953125 1000000000 (pos 9) refl refl m e
+inside (fin true m e) h = opposite m 1953125 e (pos 9) (omega (arith, some e)) ∙ sym h ∙ minus_least 1953125 1000000000 (pos 9) refl refl m e
 
-outside : (x : Float) → le x (fin false 1953125 (pos 9)) ≡ false → false ≡ up_to 1000000000 x
+outside : (x : Float) → le (fin true 1953125 (pos 9)) x ≡ false → false ≡ up_to 1000000000 x
 outside nan h = refl
 outside (inf s) h = refl
-outside (fin false m e) h = sym h ∙ plus_most 1953125 1000000000 (pos 9) refl refl m e
-outside (fin true m e) h = absurd (true≢false (sym (opposite m 1953125 e (pos 9) (omega (arith, some e))) ∙ h))
+outside (fin false m e) h = absurd (true≢false (sym (opposite 1953125 m (pos 9) e (omega (arith, some e))) ∙ h))
+outside (fin true m e) h = sym h ∙ minus_least 1953125 1000000000 (pos 9) refl refl m e
 
-pub billion_in : (x : Float) → le x (of_bits binary64 4741671816366391296) ≡ true → le (neg (of_bits binary64 4741671816366391296)) x ≡ up_to 1000000000 x
-billion_in x h = rw minus_billion_is (inside x (rw billion_is at h))
+pub billion_in : (x : Float) → le (neg (of_bits binary64 4741671816366391296)) x ≡ true → le x (of_bits binary64 4741671816366391296) ≡ up_to 1000000000 x
+billion_in x h = rw billion_is (inside x (rw minus_billion_is at h))
 
-pub billion_out : (x : Float) → le x (of_bits binary64 4741671816366391296) ≡ false → false ≡ up_to 1000000000 x
-billion_out x h = outside x (rw billion_is at h)
+pub billion_out : (x : Float) → le (neg (of_bits binary64 4741671816366391296)) x ≡ false → false ≡ up_to 1000000000 x
+billion_out x h = outside x (rw minus_billion_is at h)

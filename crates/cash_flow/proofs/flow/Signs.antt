@@ -1,4 +1,4 @@
--- A number below zero and its sign dropped: what the code's test leaves to compare.
+-- A number's sign dropped, by the library's `abs` and by negating what is below zero.
 use Prim.Native.Nat.{ℕ, zero, suc, ◌+◌, ◌*◌, ◌≤◌, ◌<◌}
 use mathlib.Core.Path.{◌≡◌, refl, sym, ap, ◌∙◌}
 use mathlib.Core.Bool.{Bool, true, false, ◌||◌, false≢true}
@@ -8,7 +8,15 @@ use lib.IntN.{ℤ}
 use lib.Ieee.{Float, nan, inf, fin, binary64, up, down, below, level, neg, lt, eq, le, of_bits}
 use lib.Ieee.Fits.{up_pos}
 use borrow.Author.Tests.{ltb-false, le-ltb}
+use Rattle.std.specs.Float.{float_with_sign}
 use Rattle.cash_flow.specs.flow.Flows.{absolute, is_within}
+
+-- the library's is the paper's
+pub sign_dropped : (d : Float) → float_with_sign false d ≡ absolute d
+unfolding float_with_sign absolute
+sign_dropped nan = refl
+sign_dropped (inf s) = refl
+sign_dropped (fin s m e) = refl
 
 -- a number below zero, negated, has its sign dropped
 pub below-zero : (d tol : Float) → lt d (of_bits binary64 0) ≡ true → le (neg d) tol ≡ is_within d tol

@@ -1,11 +1,11 @@
 -- Currencies, the limits of amounts, and what an amount's answer says.
-use Rattle.std.specs.Prelude.{ℕ, ◌*◌, ◌≡◌, Bool, false, List, [], ◌∷◌, leb, eqb, Float}
+use Rattle.std.specs.Prelude.{ℕ, ◌*◌, ◌≡◌, Bool, false, List, [], ◌∷◌, leb, eqb, Float, Result}
 use Rattle.std.specs.Float.{nan, inf, fin}
 use Rattle.std.specs.Float.Ieee.{up, down}
-use Rattle.outcome.specs.Outcome.{Outcome, given, refused, returned, plus_zero, both}
+use Rattle.outcome.specs.Outcome.{returned, plus_zero, both}
+use Rattle.outcome.specs.Refusals.{outcome_of}
+use Rattle.outcome.specs.declared.Refusal.{Refusal}
 use Rattle.cash_flow.specs.declared.currency.Currency.{Currency}
-use Rattle.cash_flow.specs.declared.currency.AmountAnswer.{AmountAnswer}
-use Rattle.cash_flow.specs.declared.currency.AmountAnswer.TheVariants.{Amount, Refused}
 
 -- a capital is one of the bytes 'A' to 'Z'
 unfoldable pub is_capital : ℕ → Bool
@@ -29,14 +29,9 @@ up_to k nan = false
 up_to k (inf s) = false
 up_to k (fin s m e) = leb (m * up e) (k * down e)
 
--- the outcome that an answer is: the amount, or the refusal's number
-abbrev pub amount_outcome : AmountAnswer → Outcome Float
-amount_outcome (Amount x) = given x
-amount_outcome (Refused n) = refused n
-
 -- what is returned of it; the zero is +0.0
-abbrev pub amount_returned : AmountAnswer → ℕ × Float
-amount_returned r = returned plus_zero (amount_outcome r)
+abbrev pub amount_returned : Result Float Refusal → ℕ × Float
+amount_returned r = returned plus_zero (outcome_of r)
 
 -- what the entry points promise of their result r
 abbrev pub CurrencyPromise : Currency → Bool → Type 0

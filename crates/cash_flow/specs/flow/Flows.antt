@@ -1,24 +1,19 @@
 -- Cash flows, and what the answer of a routine that writes them says.
-use Rattle.std.specs.Prelude.{ℕ, ◌≡◌, Bool, false, Float}
+use Rattle.std.specs.Prelude.{ℕ, ◌≡◌, Bool, false, Float, Result}
 use Rattle.std.specs.Float.{nan, inf, fin, binary64}
 use Rattle.std.specs.Float.Ieee.{sub, le}
-use Rattle.outcome.specs.Outcome.{Outcome, given, refused, value, returned, both}
+use Rattle.outcome.specs.Outcome.{value, returned, both}
+use Rattle.outcome.specs.Refusals.{outcome_of}
+use Rattle.outcome.specs.declared.Refusal.{Refusal}
 use Rattle.calendar.specs.dates.Dates.{is_same}
 use Rattle.calendar.specs.serial.Answers.{date_zero, date_of}
 use Rattle.calendar.specs.declared.dates.Date.{Date}
 use Rattle.cash_flow.specs.currency.Amounts.{is_same_currency}
 use Rattle.cash_flow.specs.declared.flow.CashFlow.{CashFlow}
-use Rattle.cash_flow.specs.declared.flow.FlowsAnswer.{FlowsAnswer}
-use Rattle.cash_flow.specs.declared.flow.FlowsAnswer.TheVariants.{Flows, Refused}
-
--- the outcome that an answer is: how many flows, or the refusal's number
-abbrev pub flows_outcome : FlowsAnswer → Outcome ℕ
-flows_outcome (Flows n) = given n
-flows_outcome (Refused n) = refused n
 
 -- what is returned of it; the zero is no flows
-abbrev pub flows_returned : FlowsAnswer → ℕ × ℕ
-flows_returned r = returned 0 (flows_outcome r)
+abbrev pub flows_returned : Result ℕ Refusal → ℕ × ℕ
+flows_returned r = returned 0 (outcome_of r)
 
 -- the date of a serial day in a plain list; a day that does not exist has the zero date of a
 -- refusal

@@ -1,10 +1,11 @@
 -- `round2digits`: an amount rounded to a number of decimals.
-use Rattle.std.specs.Prelude.{ℕ, ◌+◌, ◌*◌, ◌/◌, ◌^◌, ◌≡◌, Bool, false, leb, ℤ, pos, negsuc, nat_abs, Float}
+use Rattle.std.specs.Prelude.{ℕ, ◌+◌, ◌*◌, ◌/◌, ◌^◌, ◌≡◌, Bool, false, leb, ℤ, pos, negsuc, nat_abs, Float, Result}
 use Rattle.std.specs.Float.{nan, inf, fin, binary64}
 use Rattle.std.specs.Float.Ieee.{up, down, round, mul, div, of_int}
 use Rattle.outcome.specs.Outcome.{Outcome, given, unless, both}
-use Rattle.cash_flow.specs.currency.Amounts.{up_to, amount_outcome}
-use Rattle.cash_flow.specs.declared.currency.AmountAnswer.{AmountAnswer}
+use Rattle.outcome.specs.Refusals.{outcome_of}
+use Rattle.outcome.specs.declared.Refusal.{Refusal}
+use Rattle.cash_flow.specs.currency.Amounts.{up_to}
 
 -- 0 to 4 digits
 abbrev pub is_width : ℤ → Bool
@@ -39,5 +40,5 @@ unfoldable pub round2digits_of : Float → ℤ → Outcome Float
 round2digits_of x digits = unless (is_roundable x digits) 15 (given (rounded_by x (power_of_ten digits)))
 
 -- what the entry point promises of the amount x, the digits and its answer r
-abbrev pub RoundPromise : Float → ℤ → AmountAnswer → Type 0
-RoundPromise x digits r = amount_outcome r ≡ round2digits_of x digits
+abbrev pub RoundPromise : Float → ℤ → Result Float Refusal → Type 0
+RoundPromise x digits r = outcome_of r ≡ round2digits_of x digits

@@ -1,17 +1,24 @@
--- `date_step::add_years` meets its contract: the test is the definition's, and the rest is that of
--- a date already judged.
-use mathlib.Core.Path.{sym, ◌∙◌, ap}
+-- `add_years` meets its contract: the date is judged, and the rest is that of one that exists.
+use Rattle.std.proofs.Common.{◌∙◌, ap}
 use mir.Facts.{to_z-of_z}
+use Rattle.outcome.specs.Outcome.{Outcome, and_then}
+use Rattle.outcome.proofs.Refusals.{handed_on}
+use Rattle.calendar.specs.declared.dates.Date.{Date}
 use Rattle.date_step.specs.Steps.{add_years, years_later}
+use Rattle.date_step.proofs.Steps.{existing_gives, existing_then}
 use Rattle.date_step.proofs.add_years.Goals as goal
 
 pub years_later-requires : goal.years_later-requires
-years_later-requires c = sym c.is_date.ensures ∙ c.if-is_date.true
+years_later-requires c = existing_gives _ _ c.in_ok-existing.ensures
 
-pub returns-then-is_date : goal.returns-then-is_date
+pub returns : goal.returns
 unfolding add_years
-returns-then-is_date c = rw (sym c.is_date.ensures ∙ c.if-is_date.true) (c.years_later.ensures ∙ ap (years_later c.args.t) (to_z-of_z c.ranges.n))
+returns c =
+    let next : Date → Outcome Date = λ t. years_later t c.args.n in
+    c.years_later.ensures ∙ ap (years_later c.in_ok-existing.field-0) (to_z-of_z c.ranges.n) ∙ ap (λ (o : Outcome Date). and_then o next) c.in_ok-existing.ensures ∙ existing_then c.args.t next
 
-pub returns-else-is_date : goal.returns-else-is_date
+pub returns-in_err-existing : goal.returns-in_err-existing
 unfolding add_years
-returns-else-is_date c = rw (sym c.is_date.ensures ∙ c.if-is_date.false)
+returns-in_err-existing c =
+    let next : Date → Outcome Date = λ t. years_later t c.args.n in
+    handed_on _ _ next c.from_residual.ensures.1 c.in_err-existing.ensures ∙ existing_then c.args.t next

@@ -1,7 +1,5 @@
--- `date_step::in_month` meets its contract: the day is cut where the month is shorter.
-use Prim.Native.Nat.{ℕ, ◌+◌, ◌/◌, ◌%◌}
-use mathlib.Core.Path.{ap}
-use native.Mathlib.Omega.{arith}
+-- `in_month` meets its contract: the day is cut where the month is shorter.
+use Rattle.std.proofs.Common.{ap, ℕ, ◌+◌, ◌/◌, ◌%◌, arith}
 use Rattle.calendar.specs.dates.Dates.{month_date}
 use Rattle.calendar.specs.declared.dates.Date.{Date}
 use Rattle.calendar.proofs.gregorian.Months.{at_least}
@@ -13,14 +11,8 @@ returns-then-day-le28 c =
     let a = c.args in
     ap {B = Date} (λ (d : ℕ). record { year = a.index / 12 + 1; month = a.index % 12 + 1; day = d }) (omega (arith, at_least (a.index / 12 + 1) (a.index % 12 + 1) (omega arith) (omega arith)))
 
-pub returns-then-last-day : goal.returns-then-last-day
-unfolding month_date
-returns-then-last-day c =
-    let a = c.args in
-    ap {B = Date} (λ (d : ℕ). record { year = a.index / 12 + 1; month = a.index % 12 + 1; day = d }) (omega (arith, c.length_of_month-last.ensures))
-
 pub returns : goal.returns
 unfolding month_date
 returns c =
     let a = c.args in
-    ap {B = Date} (λ (d : ℕ). record { year = a.index / 12 + 1; month = a.index % 12 + 1; day = d }) (omega (arith, c.length_of_month-last.ensures))
+    ap {B = Date} (λ (d : ℕ). record { year = a.index / 12 + 1; month = a.index % 12 + 1; day = d }) (omega (arith, c.min-day.ensures, c.length_of_month.ensures))

@@ -1,9 +1,5 @@
--- `day_adjust::reaches` meets its contract: every month has 28 days, and past them its length
--- decides.
-use mathlib.Core.Path.{sym, ap}
-use native.Mathlib.Omega.{arith}
-use lib.Dec.{leb}
-use borrow.Author.Tests.{le-leb}
+-- `reaches` meets its contract: every month has 28 days, and past them its length decides.
+use Rattle.std.proofs.Common.{sym, ◌∙◌, le-leb, arith}
 use Rattle.calendar.specs.gregorian.Gregorian.{month_length}
 use Rattle.calendar.proofs.gregorian.Months.{at_least}
 use Rattle.day_adjust.proofs.reaches.Goals as goal
@@ -11,7 +7,4 @@ use Rattle.day_adjust.proofs.reaches.Goals as goal
 pub returns-then-day-le28 : goal.returns-then-day-le28
 returns-then-day-le28 c =
     let a = c.args in
-    sym (le-leb a.day (month_length a.year a.month) (omega (arith, at_least a.year a.month c.requires.0 c.requires.1)))
-
-pub returns : goal.returns
-returns c = ap (leb c.args.day) c.length_of_month.ensures
+    le-leb a.day 28 c.if-day-le28.true ∙ sym (le-leb a.day (month_length a.year a.month) (omega (arith, at_least a.year a.month c.requires.0 c.requires.1)))

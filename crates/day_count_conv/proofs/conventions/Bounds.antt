@@ -1,5 +1,6 @@
 -- Each fraction given is within 1 / 2 ^ 38 of the exact one, by every rule; and where one is
 -- refused, so is the other, with one number.
+use Rattle.std.specs.Prelude.{Option, Some, None}
 use Prim.Native.Nat.{ℕ, ◌≤◌}
 use mathlib.Core.Path.{◌≡◌, refl, sym, subst}
 use mathlib.Core.Bool.{true, not}
@@ -21,10 +22,6 @@ use Rattle.time_period.specs.declared.steps.TimePeriod.{TimePeriod}
 use Rattle.day_fraction.specs.declared.SimpleRule.{SimpleRule}
 use Rattle.day_count_conv.specs.declared.conventions.DayCountConv.{DayCountConv}
 use Rattle.day_count_conv.specs.declared.conventions.DayCountConv.TheVariants as conv
-use Rattle.day_count_conv.specs.declared.conventions.RollDate.{RollDate}
-use Rattle.day_count_conv.specs.declared.conventions.RollDate.TheVariants as roll-date
-use Rattle.day_count_conv.specs.declared.conventions.RollPeriod.{RollPeriod}
-use Rattle.day_count_conv.specs.declared.conventions.RollPeriod.TheVariants as roll-period
 use Rattle.day_count_conv.specs.declared.conventions.NoteTerms.{NoteTerms}
 use Rattle.time_period.proofs.steps.Frequencies.{WholeYear, regular_period, whole_year, months_in}
 use Rattle.day_fraction.proofs.Bounds.{NearTo, near_to_close, near}
@@ -63,10 +60,10 @@ module _ (start end : Date) (ds : is_date start ≡ true) (de : is_date end ≡ 
   frequent_near p roll dr =
       then_agree NearTo (frequency_of p) (walked_fraction fractions_in_f64 p start end roll) (walked_fraction fractions_exactly p start end roll) (λ f e. walked_near p roll f dr e)
 
-  icma_near : (r : RollDate) (p : RollPeriod) → roll_date_exists r ≡ true → Agree NearTo (icma_fraction fractions_in_f64 r p start end) (icma_fraction fractions_exactly r p start end)
-  icma_near (roll-date.Date roll) (roll-period.Period p) h = frequent_near p roll h
-  icma_near (roll-date.Date roll) roll-period.Absent h = refl
-  icma_near roll-date.Absent p h = refl
+  icma_near : (r : Option Date) (p : Option TimePeriod) → roll_date_exists r ≡ true → Agree NearTo (icma_fraction fractions_in_f64 r p start end) (icma_fraction fractions_exactly r p start end)
+  icma_near (Some roll) (Some p) h = frequent_near p roll h
+  icma_near (Some roll) None h = refl
+  icma_near None p h = refl
 
   rule_near : (rule : DayCountConv) (x : NoteTerms) → roll_dated rule x.roll ≡ true → Agree NearTo (by_rule fractions_in_f64 rule start end x) (by_rule fractions_exactly rule start end x)
   rule_near conv.Act365 x h = simple_near _

@@ -1,5 +1,6 @@
 -- ICMA's main path, and the refusals in their order, as theorems about the definitions; the desk
 -- card's fractions stand in `desk_card`.
+use Rattle.std.specs.Prelude.{Some, None}
 use mathlib.Core.Path.{◌≡◌, refl}
 use lib.IntN.{ℤ, pos, negsuc}
 use Rattle.outcome.specs.Walks.{walked}
@@ -14,17 +15,15 @@ use Rattle.icma.specs.parts.Walk.{turn_on, walk_on, turn_back, walk_back, base_f
 use Rattle.day_count_conv.specs.conventions.Conventions.{simple_fraction, walked_fraction, frequent_fraction, year_fraction, fractions_exactly}
 use Rattle.time_period.specs.declared.steps.TimePeriodUnit.TheVariants as unit
 use Rattle.day_count_conv.specs.declared.conventions.DayCountConv.TheVariants as conv
-use Rattle.day_count_conv.specs.declared.conventions.RollDate.TheVariants as roll-date
-use Rattle.day_count_conv.specs.declared.conventions.RollPeriod.TheVariants as roll-period
 use Rattle.day_count_conv.specs.declared.conventions.NoteTerms.{NoteTerms}
 use Rattle.calendar.proofs.dates.Examples.{on}
 use Rattle.day_fraction.proofs.Examples.{fraction as over}
 
 abbrev none : NoteTerms
-none = record { roll = roll-date.Absent; period = roll-period.Absent }
+none = record { roll = None; period = None }
 
 abbrev rolled : Date → ℤ → NoteTerms
-rolled t n = record { roll = roll-date.Date t; period = roll-period.Period (record { num = n; unit = unit.Monthly }) }
+rolled t n = record { roll = Some t; period = Some (record { num = n; unit = unit.Monthly }) }
 
 -- ICMA's main path: whole periods and both broken parts. From 2020-02-29 to 2021-03-31, rolled by 3M
 -- from 2020-08-31: 1 + 3 + 31/89, or 387/89 quarters
@@ -39,7 +38,7 @@ pub record Order : Type 0 where
   pub roll_date_ignored : year_fraction fractions_exactly conv.Act365 (on 2021 1 1) (on 2021 1 2) (rolled (on 2021 2 29) (pos 0)) ≡ given (over (pos 1) 365)
   pub start_after_end : year_fraction fractions_exactly conv.ActActICMA (on 2021 3 1) (on 2021 1 1) none ≡ refused 19
   pub no_roll_date : year_fraction fractions_exactly conv.ActActICMA (on 2021 1 1) (on 2021 3 1) none ≡ refused 10
-  pub no_period : year_fraction fractions_exactly conv.ActActICMA (on 2021 1 1) (on 2021 3 1) (record { roll = roll-date.Date (on 2021 1 1); period = roll-period.Absent }) ≡ refused 11
+  pub no_period : year_fraction fractions_exactly conv.ActActICMA (on 2021 1 1) (on 2021 3 1) (record { roll = Some (on 2021 1 1); period = None }) ≡ refused 11
   pub no_frequency : year_fraction fractions_exactly conv.ActActICMA (on 2021 1 1) (on 2021 3 1) (rolled (on 2021 1 1) (pos 0)) ≡ refused 5
   pub below_one : year_fraction fractions_exactly conv.ActActICMA (on 2021 1 1) (on 2021 3 1) (rolled (on 2021 1 1) (negsuc 2)) ≡ refused 14
   pub out_of_calendar : year_fraction fractions_exactly conv.ActActICMA (on 1 1 2) (on 1 1 3) (rolled (on 1 1 3) (pos 1)) ≡ refused 1

@@ -1,4 +1,5 @@
 -- The f64 of a walk's parts is near the exact fraction.
+use Rattle.std.specs.Prelude.{Option, Some, None}
 use Prim.Native.Nat.{ℕ, ◌+◌, ◌*◌, ◌^◌, ◌≤◌, ◌<◌, zero-le}
 use mathlib.Core.Path.{◌≡◌, sym, ap₂, subst}
 use native.Mathlib.Nat.{mul-pos, mul-le-mul_left, le-mul_of_pos_right}
@@ -16,8 +17,7 @@ use Rattle.day_fraction.proofs.Bounds.{NearTo, lands}
 use Rattle.day_fraction.proofs.Written.{lit0}
 use Rattle.day_count_conv.specs.conventions.Conventions.{part_added, parts_bits, part_exact, parts_exact}
 use Rattle.time_period.specs.declared.steps.TimePeriodUnit.{TimePeriodUnit}
-use Rattle.icma.specs.declared.parts.Broken.{Broken}
-use Rattle.icma.specs.declared.parts.Broken.TheVariants.{Nothing, Part}
+use Rattle.icma.specs.declared.parts.Part.{Part}
 use Rattle.icma.specs.declared.parts.Parts.{Parts}
 use Rattle.icma.specs.declared.parts.Parts.TheVariants.{Short, Long}
 use Rattle.time_period.proofs.steps.Frequencies.{Regular, one_month, three_months, six_months, twelve_months, one_year, months_in, whole_year}
@@ -34,17 +34,17 @@ part_near d l h k s =
     (plus d) (minus d) l (omega arith) (omega arith)
 
 -- the first broken part, added to nothing
-first_near : (x : Broken) → BrokenSize x → Near (part_added (of_bits binary64 0) x) (plus (part_exact x).num) (minus (part_exact x).num) (part_exact x).den 32 (2 ^ 53)
-first_near Nothing s = near_weaken zero_near 32 (2 ^ 53) zero-le zero-le
-first_near (Part d l) s =
-    near_same (near_add zero_near (part_near d l s.0 s.1 s.2) 6 (lit≤ tt) (lit< tt) (lit< tt)) (plus d) (minus d) l (omega arith) (omega arith)
+first_near : (x : Option Part) → BrokenSize x → Near (part_added (of_bits binary64 0) x) (plus (part_exact x).num) (minus (part_exact x).num) (part_exact x).den 32 (2 ^ 53)
+first_near None s = near_weaken zero_near 32 (2 ^ 53) zero-le zero-le
+first_near (Some x) s =
+    near_same (near_add zero_near (part_near x.days x.length s.0 s.1 s.2) 6 (lit≤ tt) (lit< tt) (lit< tt)) (plus x.days) (minus x.days) x.length (omega arith) (omega arith)
 
 -- the last, added to it
-last_near : {y : Float} {a b d : ℕ} → Near y a b d 32 (2 ^ 53) → (x : Broken) → BrokenSize x
+last_near : {y : Float} {a b d : ℕ} → Near y a b d 32 (2 ^ 53) → (x : Option Part) → BrokenSize x
     → Near (part_added y x) (a * (part_exact x).den + plus (part_exact x).num * d) (b * (part_exact x).den + minus (part_exact x).num * d) (d * (part_exact x).den) 64 (2 ^ 55)
-last_near {y} {a} {b} {d} Y Nothing s =
+last_near {y} {a} {b} {d} Y None s =
     near_weaken (near_same Y (a * 1 + 0 * d) (b * 1 + 0 * d) (d * 1) (let p = Y.den in omega arith) (omega arith)) 64 (2 ^ 55) (lit≤ tt) (lit≤ tt)
-last_near Y (Part e l) s = near_weaken (near_add Y (part_near e l s.0 s.1 s.2) 7 (lit≤ tt) (lit< tt) (lit< tt)) 64 (2 ^ 55) (lit≤ tt) (lit≤ tt)
+last_near Y (Some x) s = near_weaken (near_add Y (part_near x.days x.length s.0 s.1 s.2) 7 (lit≤ tt) (lit< tt) (lit< tt)) 64 (2 ^ 55) (lit≤ tt) (lit≤ tt)
 
 -- the two sides of one fraction, multiplied out
 sides : (a b c g d q n f : ℕ)
@@ -52,7 +52,7 @@ sides : (a b c g d q n f : ℕ)
 sides a b c g d q n f = simp ring (omega arith)
 
 -- (first + last + count) / frequency, for a count below 2 ^ t
-long_near : (first last : Broken) (n f t : ℕ) → BrokenSize first → BrokenSize last → 1 ≤ f → f ≤ 12 → t ≤ 900 → 64 + n < 2 ^ t → n < 2 ^ 53 → 64 + n ≤ f * 10150 → 2 ^ 55 + 0 + 2 ^ (46 + t) ≤ f * 2 ^ 61 → 2 ^ 55 + 0 + 2 ^ (46 + t) < 2 ^ 100
+long_near : (first last : Option Part) (n f t : ℕ) → BrokenSize first → BrokenSize last → 1 ≤ f → f ≤ 12 → t ≤ 900 → 64 + n < 2 ^ t → n < 2 ^ 53 → 64 + n ≤ f * 10150 → 2 ^ 55 + 0 + 2 ^ (46 + t) ≤ f * 2 ^ 61 → 2 ^ 55 + 0 + 2 ^ (46 + t) < 2 ^ 100
     → NearTo (parts_bits f (Long first last n)) (parts_exact f (Long first last n))
 long_near first last n f t sf sl lf uf lt room few most err small =
     let p = part_exact first in

@@ -1,9 +1,11 @@
 -- The year fraction by six rules: its refusals in their order, and its f64.
-use Rattle.std.specs.Prelude.{ℕ, ◌*◌, ◌≤◌, ◌≡◌, Bool, true, not, pos, ◌+ℤ◌, ◌*ℤ◌, Float}
+use Rattle.std.specs.Prelude.{ℕ, ◌*◌, ◌≤◌, ◌≡◌, Bool, true, not, pos, ◌+ℤ◌, ◌*ℤ◌, Float, Result, Option, Some, None}
 use Rattle.std.specs.Int.Signed.{le_z}
 use Rattle.std.specs.Float.{binary64}
 use Rattle.std.specs.Float.Ieee.{add, mul, div, of_bits}
 use Rattle.outcome.specs.Outcome.{Outcome, given, refused, returned, plus_zero, unless, and_then, both}
+use Rattle.outcome.specs.Refusals.{outcome_of}
+use Rattle.outcome.specs.declared.Refusal.{Refusal}
 use Rattle.calendar.specs.dates.Dates.{is_date, is_before}
 use Rattle.calendar.specs.declared.dates.Date.{Date}
 use Rattle.time_period.specs.steps.Periods.{frequency_of}
@@ -13,33 +15,21 @@ use Rattle.day_fraction.specs.Fractions.{whole, quotient, bits, exact_fraction, 
 use Rattle.day_fraction.specs.declared.SimpleRule.{SimpleRule}
 use Rattle.day_fraction.specs.declared.SimpleRule.TheVariants as simple
 use Rattle.icma.specs.parts.Walk.{icma_parts}
-use Rattle.icma.specs.declared.parts.Broken.{Broken}
-use Rattle.icma.specs.declared.parts.Broken.TheVariants.{Nothing, Part}
+use Rattle.icma.specs.declared.parts.Part.{Part}
 use Rattle.icma.specs.declared.parts.Parts.{Parts}
 use Rattle.icma.specs.declared.parts.Parts.TheVariants.{Short, Long}
 use Rattle.day_count_conv.specs.declared.conventions.DayCountConv.{DayCountConv}
 use Rattle.day_count_conv.specs.declared.conventions.DayCountConv.TheVariants as conv
-use Rattle.day_count_conv.specs.declared.conventions.YearFraction.{YearFraction}
-use Rattle.day_count_conv.specs.declared.conventions.YearFraction.TheVariants as year-fraction
-use Rattle.day_count_conv.specs.declared.conventions.RollDate.{RollDate}
-use Rattle.day_count_conv.specs.declared.conventions.RollDate.TheVariants as roll-date
-use Rattle.day_count_conv.specs.declared.conventions.RollPeriod.{RollPeriod}
-use Rattle.day_count_conv.specs.declared.conventions.RollPeriod.TheVariants as roll-period
 use Rattle.day_count_conv.specs.declared.conventions.NoteTerms.{NoteTerms}
 
--- the outcome that an answer is: the fraction, or the refusal's number
-abbrev pub fraction_outcome : YearFraction → Outcome Float
-fraction_outcome (year-fraction.Fraction x) = given x
-fraction_outcome (year-fraction.Refused n) = refused n
-
 -- what is returned of it; the zero is +0.0
-abbrev pub fraction_returned : YearFraction → ℕ × Float
-fraction_returned r = returned plus_zero (fraction_outcome r)
+abbrev pub fraction_returned : Result Float Refusal → ℕ × Float
+fraction_returned r = returned plus_zero (outcome_of r)
 
 -- ICMA: a broken part is added to the sum
-abbrev pub part_added : Float → Broken → Float
-part_added x Nothing = x
-part_added x (Part days length) = add binary64 x (quotient days length)
+abbrev pub part_added : Float → Option Part → Float
+part_added x (Some p) = add binary64 x (quotient p.days p.length)
+part_added x None = x
 
 -- days / (length x frequency); or (first + last + count) / frequency
 abbrev pub parts_bits : ℕ → Parts → Float
@@ -48,9 +38,9 @@ parts_bits f (Long first last count) =
     div binary64 (add binary64 (part_added (part_added (of_bits binary64 0) first) last) (whole (pos count))) (whole (pos f))
 
 -- the same exactly: a broken part that is not there is 0
-abbrev pub part_exact : Broken → Exact
-part_exact Nothing = record { num = pos 0; den = 1 }
-part_exact (Part days length) = record { num = days; den = length }
+abbrev pub part_exact : Option Part → Exact
+part_exact (Some p) = record { num = p.days; den = p.length }
+part_exact None = record { num = pos 0; den = 1 }
 
 abbrev pub sum_exact : Exact → Exact → ℕ → ℕ → Exact
 sum_exact p q count f =
@@ -78,14 +68,14 @@ unfoldable pub frequent_fraction : {A : Type 0} → Values A → TimePeriod → 
 frequent_fraction v p start end roll = and_then (frequency_of p) (walked_fraction v p start end roll)
 
 -- 11: no period
-abbrev pub period_fraction : {A : Type 0} → Values A → RollPeriod → Date → Date → Date → Outcome A
-period_fraction v (roll-period.Period p) start end roll = frequent_fraction v p start end roll
-period_fraction v roll-period.Absent start end roll = refused 11
+abbrev pub period_fraction : {A : Type 0} → Values A → Option TimePeriod → Date → Date → Date → Outcome A
+period_fraction v (Some p) start end roll = frequent_fraction v p start end roll
+period_fraction v None start end roll = refused 11
 
 -- 10: no roll date
-abbrev pub icma_fraction : {A : Type 0} → Values A → RollDate → RollPeriod → Date → Date → Outcome A
-icma_fraction v (roll-date.Date roll) period start end = period_fraction v period start end roll
-icma_fraction v roll-date.Absent period start end = refused 10
+abbrev pub icma_fraction : {A : Type 0} → Values A → Option Date → Option TimePeriod → Date → Date → Outcome A
+icma_fraction v (Some roll) period start end = period_fraction v period start end roll
+icma_fraction v None period start end = refused 10
 
 -- under the other rules a roll date and a period are ignored
 abbrev pub by_rule : {A : Type 0} → Values A → DayCountConv → Date → Date → NoteTerms → Outcome A
@@ -98,18 +88,18 @@ by_rule v conv.ActActICMA start end x = icma_fraction v x.roll x.period start en
 
 -- neither a roll date nor a period
 abbrev pub no_terms : NoteTerms
-no_terms = record { roll = roll-date.Absent; period = roll-period.Absent }
+no_terms = record { roll = None; period = None }
 
 -- a period that rolls from a date
 abbrev pub rolled_from : Date → TimePeriod → NoteTerms
-rolled_from t p = record { roll = roll-date.Date t; period = roll-period.Period p }
+rolled_from t p = record { roll = Some t; period = Some p }
 
 -- under ICMA a roll date that is given exists
-abbrev pub roll_date_exists : RollDate → Bool
-roll_date_exists (roll-date.Date t) = is_date t
-roll_date_exists roll-date.Absent = true
+abbrev pub roll_date_exists : Option Date → Bool
+roll_date_exists (Some t) = is_date t
+roll_date_exists None = true
 
-abbrev pub roll_dated : DayCountConv → RollDate → Bool
+abbrev pub roll_dated : DayCountConv → Option Date → Bool
 roll_dated conv.Act365 r = true
 roll_dated conv.Act360 r = true
 roll_dated conv.Act365l r = true
@@ -146,5 +136,5 @@ abbrev pub FractionWithin : Outcome Float → Outcome Exact → Type 0
 FractionWithin o p = Agree CloseTo o p
 
 -- what the entry point promises of its result r: its bits, and how far off it is
-abbrev pub FractionPromise : DayCountConv → Date → Date → NoteTerms → YearFraction → Type 0
-FractionPromise rule start end x r = (fraction_outcome r ≡ year_fraction fractions_in_f64 rule start end x) × FractionWithin (fraction_outcome r) (year_fraction fractions_exactly rule start end x)
+abbrev pub FractionPromise : DayCountConv → Date → Date → NoteTerms → Result Float Refusal → Type 0
+FractionPromise rule start end x r = (outcome_of r ≡ year_fraction fractions_in_f64 rule start end x) × FractionWithin (outcome_of r) (year_fraction fractions_exactly rule start end x)

@@ -10,12 +10,12 @@ use Rattle.day_fraction.proofs.calc_30_360.Goals as goal
 
 pub in_thirties-requires : goal.in_thirties-requires
 in_thirties-requires c =
-    let a = c.args in
-    let A = dates_30 a.start a.end (date-yes a.start c.requires.first) (date-yes a.end c.requires.last) in
-    (c.requires, omega (arith, A.start_to, c.cut_day.ensures), omega (arith, A.end_to, c.end_day.ensures))
+    let a = c.args.span in
+    let A = dates_30 a.start a.end (date-yes a.start a.ordered.first) (date-yes a.end a.ordered.last) in
+    (omega (arith, A.start_to, c.cut_day.ensures), omega (arith, A.end_to, c.end_day.ensures))
 
 pub returns : goal.returns
 unfolding bits
 returns c =
-    let a = c.args in
+    let a = c.args.span in
     rw c.in_thirties.ensures (ap₂ (λ (to from : ℕ). thirties_bits (years a.start a.end) (months a.start a.end) (difference to from)) c.end_day.ensures c.cut_day.ensures)

@@ -6,4 +6,4 @@ use Rattle.day_fraction.proofs.calc_act_360.Goals as goal
 
 pub returns : goal.returns
 unfolding bits
-returns c = over_by 360 lit360 c.days_from.ensures
+returns c = over_by 360 lit360 c.days.ensures

@@ -6,4 +6,4 @@ use Rattle.day_fraction.proofs.calc_act_365.Goals as goal
 
 pub returns : goal.returns
 unfolding bits
-returns c = over_by 365 lit365 c.days_from.ensures
+returns c = over_by 365 lit365 c.days.ensures

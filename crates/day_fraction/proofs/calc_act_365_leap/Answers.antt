@@ -7,9 +7,9 @@ use Rattle.day_fraction.proofs.calc_act_365_leap.Goals as goal
 
 pub signed_difference-y-requires : goal.signed_difference-y-requires
 signed_difference-y-requires c =
-    let a = c.args in
-    let s = date-yes a.start c.requires.first in
-    let e = date-yes a.end c.requires.last in
+    let a = c.args.span in
+    let s = date-yes a.start a.ordered.first in
+    let e = date-yes a.end a.ordered.last in
     (omega arith, omega arith)
 
 pub returns : goal.returns

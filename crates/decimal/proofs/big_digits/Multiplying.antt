@@ -9,7 +9,8 @@ use lib.Pow.{pow-add}
 use lib.ListN.{length, take, set, get_or}
 use lib.Seq.{take-set-le, take-length, take_at, drop-length, get_or_at, get_or-take, take-take}
 use Rattle.outcome.proofs.Numbers.{digits_apart}
-use Rattle.number_text.specs.write.Writing.{digits, put}
+use Rattle.number_text.specs.write.Writing.{digits, put, Puts}
+use Rattle.number_text.specs.declared.write.Writer.{Writer}
 use Rattle.number_text.proofs.length.Digits.{length_digits}
 use Rattle.number_text.proofs.write.Putting.{put_last, put-none, put_front}
 use Rattle.decimal.specs.big_digits.BigDigits.{Multiplied}
@@ -81,8 +82,10 @@ product_small d m h = mul-le-mul_right m (omega arith)
 
 -- ---- so many factors two, and then so many more
 
-pub scaled_start : (d o : List ℕ) (n : ℕ) → o ≡ put d 0 (digits (length d) n) → o ≡ digits (length d) (n * 2 ^ 0)
-scaled_start d o n e = e ∙ put_all d (digits (length d) n) (length_digits (length d) n) ∙ ap (digits (length d)) (omega arith)
+pub scaled_start : (d o : List ℕ) (v w : Writer) (n : ℕ) → v.out.now ≡ d → v.at ≡ 0 → Puts v w (digits (length d) n) → o ≡ w.out.now → (length o ≡ length d) × (o ≡ digits (length d) (n * 1))
+scaled_start d o v w n e f p q =
+    let all : o ≡ digits (length d) n = q ∙ p.bytes ∙ rw (e, f) (put_all d (digits (length d) n) (length_digits (length d) n)) in
+    (ap length all ∙ length_digits (length d) n, all ∙ ap (digits (length d)) (omega arith))
 
 pub scaled_more : (o p : List ℕ) (k n m i j l : ℕ) → length o ≡ k → o ≡ digits k (n * 2 ^ i) → m ≡ 2 ^ j → i + j ≡ l → Multiplied m o p → p ≡ digits k (n * 2 ^ l)
 scaled_more o p k n m i j l len e q s f =

@@ -6,33 +6,29 @@ use mathlib.Core.List.{List, [], ◌∷◌}
 use mathlib.Core.Logic.{⊎_elim}
 use native.Mathlib.Nat.{one-le-pow, pow-suc, div-eq_of_lt, div-lt_iff_lt-mul, le-div_iff_mul-le, pow-le-pow_right}
 use native.Mathlib.Omega.{arith}
+use native.Mathlib.Numerals.{add-one}
 use lib.Dec.{eqb}
-use lib.ListN.{length, drop, get_or, drop_of_length-le}
+use lib.ListN.{length}
 use borrow.Author.Tests.{eq-eqb, ne_eqb}
 use Rattle.outcome.specs.Outcome.{pick}
 use Rattle.number_text.specs.write.Writing.{digits, places}
 use Rattle.number_text.proofs.length.Digits.{digits-first, places_few, places_least, places_enough}
-use Rattle.outcome.proofs.Lists.{head_at}
 use Rattle.outcome.proofs.Numbers.{lt_or_le}
 use Rattle.decimal.specs.big_digits.BigDigits.{zeros_leading}
 
--- ---- counted up from the start
+-- ---- counted up to the first byte that is none
 
-pub zeros_more : (s : List ℕ) (i z : ℕ) → i + zeros_leading (drop i s) ≡ z → i < length s → get_or s i 0 ≡ 48 → i + 1 + zeros_leading (drop (i + 1) s) ≡ z
+pub zero-first : (b : ℕ) (s : List ℕ) → b ≡ 48 → zeros_leading (b ∷ s) ≡ zeros_leading s + 1
 unfolding zeros_leading
-zeros_more s i z e h f =
-    let g = rw (head_at s i 0 h, eq-eqb (get_or s i 0) 48 f) at e in
-    omega arith
+zero-first b s e = rw (eq-eqb b 48 e) (omega arith)
 
-pub zeros_stop : (s : List ℕ) (i z : ℕ) → i + zeros_leading (drop i s) ≡ z → i < length s → (get_or s i 0 ≡ 48 → ⊥) → i ≡ z
+pub other_first : (b : ℕ) (s : List ℕ) → (b ≡ 48 → ⊥) → zeros_leading (b ∷ s) ≡ 0
 unfolding zeros_leading
-zeros_stop s i z e h f =
-    let g = rw (head_at s i 0 h, ne_eqb (get_or s i 0) 48 f) at e in
-    omega arith
+other_first b s e = rw (ne_eqb b 48 e)
 
-pub zeros_end : (s : List ℕ) (i z : ℕ) → i + zeros_leading (drop i s) ≡ z → length s ≤ i → i ≡ z
+pub zeros_none : zeros_leading [] ≡ 0
 unfolding zeros_leading
-zeros_end s i z e h = let g = rw (drop_of_length-le s h) at e in omega arith
+zeros_none = refl
 
 pub zeros_most : (s : List ℕ) → zeros_leading s ≤ length s
 unfolding zeros_leading
@@ -44,14 +40,6 @@ zeros_most (b ∷ s) = go (eqb b 48) (zeros_most s)
     go false h = omega arith
 
 -- ---- before the digits of a number
-
-zero-first : (b : ℕ) (s : List ℕ) → b ≡ 48 → zeros_leading (b ∷ s) ≡ suc (zeros_leading s)
-unfolding zeros_leading
-zero-first b s e = rw (eq-eqb b 48 e)
-
-other_first : (b : ℕ) (s : List ℕ) → (b ≡ 48 → ⊥) → zeros_leading (b ∷ s) ≡ 0
-unfolding zeros_leading
-other_first b s e = rw (ne_eqb b 48 e)
 
 no_digits : (v : ℕ) → zeros_leading (digits 0 v) ≡ 0
 unfolding zeros_leading digits
@@ -66,7 +54,7 @@ places-exact k w l h = ⊎_elim (λ p. absurd (omega (arith, places_enough w, po
 zero_more : (k w : ℕ) → w < 10 ^ suc k → zeros_leading (digits (suc k) (w / 10)) ≡ suc (zeros_leading (digits k (w / 10)))
 zero_more k w h =
     let none : w / 10 / 10 ^ k ≡ 0 = div-eq_of_lt (omega (arith, pow-suc 10 k)) in
-    ap zeros_leading (digits-first k (w / 10)) ∙ zero-first (48 + w / 10 / 10 ^ k % 10) (digits k (w / 10)) (rw none (omega arith))
+    ap zeros_leading (digits-first k (w / 10)) ∙ zero-first (48 + w / 10 / 10 ^ k % 10) (digits k (w / 10)) (rw none (omega arith)) ∙ rw add-one
 
 zero-none : (k w : ℕ) → 10 ^ suc k ≤ w → w < 10 ^ suc (suc k) → zeros_leading (digits (suc k) (w / 10)) ≡ 0
 zero-none k w l h =

@@ -5,6 +5,7 @@ use mathlib.Core.Path.{◌≡◌, refl, sym, ap, ◌∙◌}
 use mathlib.Core.Bool.{Bool, true}
 use native.Mathlib.Nat.{mul-one, mul_right_comm, mul-mul-mul_comm, mul_assoc}
 use native.Mathlib.Omega.{arith}
+use Rattle.std.specs.Prelude.{Some, None}
 use lib.Dec.{leb}
 use lib.Pow.{pow-add, pow_pos}
 use lib.Ieee.{Float, nan, inf, fin, up, down, binary64, of_fields, of_bits}
@@ -17,7 +18,7 @@ use Rattle.rounding.proofs.Fields.{few_value, some-value, not_finite}
 use Rattle.rounding.specs.Close.{sign_bit}
 use Rattle.decimal.specs.float.Decimal.{ten_thousandths}
 use Rattle.decimal.specs.float.Parts.{PartsOf}
-use Rattle.decimal.specs.declared.float.Parts.TheVariants.{Small, Large, NotFinite}
+use Rattle.decimal.specs.declared.float.Parts.TheVariants.{Small, Large}
 use Rattle.decimal.proofs.float.Halves.{closest-whole}
 
 -- ---- a rounding by the value's fraction, in smaller numbers
@@ -76,21 +77,21 @@ some s (suc x) d t l h e =
 -- ---- and by its bits b
 
 module _ (b : ℕ) where
-  pub bits_none : b % 9223372036854775808 / 4503599627370496 ≡ 2047 → PartsOf (of_bits binary64 b) NotFinite
+  pub bits_none : b % 9223372036854775808 / 4503599627370496 ≡ 2047 → PartsOf (of_bits binary64 b) None
   unfolding of_bits
   bits_none e = rw (e) (not_finite (leb 9223372036854775808 b) (b % 4503599627370496))
 
-  pub bits_few : (t : ℕ) → b % 9223372036854775808 / 4503599627370496 ≡ 0 → t ≡ closest (b % 4503599627370496 * 2 ^ 0 * 10000) (2 ^ 1074) → PartsOf (of_bits binary64 b) (Small (leb 9223372036854775808 b) t)
+  pub bits_few : (t : ℕ) → b % 9223372036854775808 / 4503599627370496 ≡ 0 → t ≡ closest (b % 4503599627370496 * 2 ^ 0 * 10000) (2 ^ 1074) → PartsOf (of_bits binary64 b) (Some (Small (leb 9223372036854775808 b) t))
   unfolding of_bits
   bits_few t e f = rw (e) (few (leb 9223372036854775808 b) (b % 4503599627370496) t f)
 
   pub bits-some : (t : ℕ) → 1 ≤ b % 9223372036854775808 / 4503599627370496 → b % 9223372036854775808 / 4503599627370496 < 2047
-      → t ≡ closest ((4503599627370496 + b % 4503599627370496) * 2 ^ (b % 9223372036854775808 / 4503599627370496 - 1) * 10000) (2 ^ 1074) → PartsOf (of_bits binary64 b) (Small (leb 9223372036854775808 b) t)
+      → t ≡ closest ((4503599627370496 + b % 4503599627370496) * 2 ^ (b % 9223372036854775808 / 4503599627370496 - 1) * 10000) (2 ^ 1074) → PartsOf (of_bits binary64 b) (Some (Small (leb 9223372036854775808 b) t))
   unfolding of_bits
   bits-some t l h e = some (leb 9223372036854775808 b) (b % 9223372036854775808 / 4503599627370496) (b % 4503599627370496) t l h e
 
   pub bits_large : 1071 < b % 9223372036854775808 / 4503599627370496 → b % 9223372036854775808 / 4503599627370496 < 2047
-      → PartsOf (of_bits binary64 b) (Large (leb 9223372036854775808 b) ((4503599627370496 + b % 4503599627370496) * 625) (b % 9223372036854775808 / 4503599627370496 - 1071))
+      → PartsOf (of_bits binary64 b) (Some (Large (leb 9223372036854775808 b) ((4503599627370496 + b % 4503599627370496) * 625) (b % 9223372036854775808 / 4503599627370496 - 1071)))
   unfolding of_bits
   bits_large l h =
       let f : ℕ = b % 9223372036854775808 / 4503599627370496 in

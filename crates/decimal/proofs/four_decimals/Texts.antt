@@ -9,11 +9,12 @@ use native.Mathlib.Omega.{arith}
 use lib.Pow.{pow-add, pow_mono, shl_lt}
 use lib.ListN.{length, take, drop, replicate, length-append, length-replicate, length-drop}
 use lib.Seq.{take_at, drop_at, length-take-le}
-use Rattle.number_text.specs.write.Writing.{digits, places, decimal_text, sign_text, right_aligned, Wrote}
+use Rattle.number_text.specs.write.Writing.{digits, places, decimal_text, sign_text, right_aligned, HasRoom, Puts}
+use Rattle.number_text.specs.declared.write.Writer.{Writer}
+use Rattle.number_text.proofs.write.Putting.{puts_then, room_then}
 use Rattle.number_text.proofs.length.Digits.{length_digits, length_decimal, decimal_within, digits-split, digits_last}
 use Rattle.number_text.proofs.length.Signs.{sign_within}
-use Rattle.number_text.proofs.write.Putting.{wrote_then}
-use Rattle.number_text.proofs.write.Writers.{length_aligned, wrote_is}
+use Rattle.number_text.proofs.write.Writers.{length_aligned, decimal_digits}
 use Rattle.decimal.specs.four_decimals.FourDecimals.{four_decimals}
 use Rattle.decimal.specs.four_decimals.Pieces.{signed_decimals, front_text, whole_start, pointed, array_text}
 use Rattle.decimal.proofs.big_digits.Zeros.{zeros_before, zeros_most}
@@ -42,20 +43,11 @@ front_long s size = length-append (replicate (16 - (length (sign_text s) + size)
 pub front_room : (s : Bool) (t : ℕ) → length (front_text s (length (four_decimals t))) + length (four_decimals t) ≡ length (signed_decimals s t)
 front_room s t = omega (arith, front_long s (length (four_decimals t)), signed_long s t)
 
-front_four : (s : Bool) (t : ℕ) → front_text s (length (four_decimals t)) ++ four_decimals t ≡ signed_decimals s t
+pub front_four : (s : Bool) (t : ℕ) → front_text s (length (four_decimals t)) ++ four_decimals t ≡ signed_decimals s t
 unfolding right_aligned
 front_four s t =
     append_assoc (replicate (16 - (length (sign_text s) + length (four_decimals t))) 32) (sign_text s) (four_decimals t)
     ∙ ap (λ (n : ℕ). replicate (16 - n) 32 ++ (sign_text s ++ four_decimals t)) (sym (length-append (sign_text s) (four_decimals t)))
-
--- written one after the other
-pub front_wrote : (d e f : List ℕ) (at b r size : ℕ) (s : Bool) (t : ℕ) → size ≡ length (four_decimals t) → Wrote d e at (front_text s size) b → Wrote e f b (four_decimals t) r → at + length (signed_decimals s t) ≤ length d → Wrote d f at (signed_decimals s t) r
-front_wrote d e f at b r size s t q v w h =
-    wrote_is d f at r _ _ (wrote_then d e f at b r (front_text s (length (four_decimals t))) (four_decimals t) (rw (q) at v) w (omega (arith, front_room s t))) (front_four s t)
-
-pub four_wrote : (d e f : List ℕ) (at b r : ℕ) (t : ℕ) → Wrote d e at (decimal_text (t / 10000)) b → Wrote e f b (46 ∷ digits 4 t) r → at + length (four_decimals t) ≤ length d → Wrote d f at (four_decimals t) r
-unfolding four_decimals
-four_wrote d e f at b r t v w h = wrote_then d e f at b r (decimal_text (t / 10000)) (46 ∷ digits 4 t) v w (omega (arith, length-append (decimal_text (t / 10000)) (46 ∷ digits 4 t)))
 
 -- ---- the same text from an array of digits
 
@@ -151,16 +143,26 @@ array_long s d h = length-append (front_text s (length d + 1 - whole_start d)) (
 
 -- ---- written one after the other
 
-pub blanks_wrote : (d e f : List ℕ) (at b r k size : ℕ) (s : Bool) → k ≡ 16 - (length (sign_text s) + size) → Wrote d e at (replicate k 32) b → Wrote e f b (sign_text s) r → at + length (front_text s size) ≤ length d → Wrote d f at (front_text s size) r
-blanks_wrote d e f at b r k size s q v w h =
-    wrote_then d e f at b r (replicate (16 - (length (sign_text s) + size)) 32) (sign_text s) (rw (q) at v) w (omega (arith, length-append (replicate (16 - (length (sign_text s) + size)) 32) (sign_text s)))
+pub small_puts : (u v a b w : Writer) (s : Bool) (t k : ℕ) → k ≡ length (decimal_text (t / 10000)) → HasRoom u (signed_decimals s t) → Puts u v (front_text s (k + 5)) → Puts v a (digits k (t / 10000)) → Puts a b (46 ∷ []) → Puts b w (digits 4 t) → Puts u w (signed_decimals s t)
+unfolding four_decimals
+small_puts u v a b w s t k e h p q r o =
+    let size : k + 5 ≡ length (four_decimals t) = omega (arith, four_long t) in
+    let front : Puts u v (front_text s (length (four_decimals t))) = rw (size) at p in
+    let whole : Puts v a (decimal_text (t / 10000)) = rw (decimal_digits (t / 10000) k e) at q in
+    let all : HasRoom u (front_text s (length (four_decimals t)) ++ four_decimals t) = rw (front_four s t) h in
+    let rest : HasRoom v (four_decimals t) = room_then u v (front_text s (length (four_decimals t))) (four_decimals t) front all in
+    let last : HasRoom a (46 ∷ digits 4 t) = room_then v a (decimal_text (t / 10000)) (46 ∷ digits 4 t) whole rest in
+    rw (← front_four s t) (puts_then u v w (front_text s (length (four_decimals t))) (four_decimals t) front (puts_then v a w (decimal_text (t / 10000)) (46 ∷ digits 4 t) whole (puts_then a b w (46 ∷ []) (digits 4 t) r o last) rest) all)
 
-pub array_wrote : (d e f a : List ℕ) (at b r z : ℕ) (s : Bool) → z ≡ whole_start a → Wrote d e at (front_text s (length a + 1 - z)) b → Wrote e f b (pointed a z) r → at + length (array_text s a) ≤ length d → Wrote d f at (array_text s a) r
-array_wrote d e f a at b r z s q v w h =
-    wrote_then d e f at b r (front_text s (length a + 1 - whole_start a)) (pointed a (whole_start a)) (rw (q) at v) (rw (q) at w) (omega (arith, length-append (front_text s (length a + 1 - whole_start a)) (pointed a (whole_start a))))
-
-pub pointed_room : (d : List ℕ) (z : ℕ) → z + 5 ≤ length d → length (take (length d - 4 - z) (drop z d)) + length (46 ∷ drop (length d - 4) d) ≡ length d - z + 1
-pointed_room d z h = sym (length-append (take (length d - 4 - z) (drop z d)) (46 ∷ drop (length d - 4) d)) ∙ pointed_long d z h
+pub array_puts : (u v a b w : Writer) (s : Bool) (d : List ℕ) (z : ℕ) → z ≡ whole_start d → HasRoom u (array_text s d) → Puts u v (front_text s (length d + 1 - z)) → Puts v a (take (length d - 4 - z) (drop z d)) → Puts a b (46 ∷ []) → Puts b w (drop (length d - 4) d) → Puts u w (array_text s d)
+array_puts u v a b w s d z e h p q r o =
+    let size : ℕ = length d + 1 - whole_start d in
+    let whole : List ℕ = take (length d - 4 - whole_start d) (drop (whole_start d) d) in
+    let last : List ℕ = drop (length d - 4) d in
+    let front : Puts u v (front_text s size) = rw (e) at p in
+    let middle : Puts v a whole = rw (e) at q in
+    let rest : HasRoom v (pointed d (whole_start d)) = room_then u v (front_text s size) (pointed d (whole_start d)) front h in
+    puts_then u v w (front_text s size) (pointed d (whole_start d)) front (puts_then v a w whole (46 ∷ last) middle (puts_then a b w (46 ∷ []) last r o (room_then v a whole (46 ∷ last) middle rest)) rest) h
 
 -- ---- the array e of as many digits as d, once the number is in it
 

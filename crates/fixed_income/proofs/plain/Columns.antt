@@ -6,6 +6,7 @@ use mathlib.Core.List.{List, [], ◌∷◌, map}
 use native.Mathlib.Omega.{arith}
 use lib.Ieee.{Float, nan}
 use lib.Dec.{leb, ltb}
+use borrow.Author.Tests.{lt-ltb, le-ltb}
 use lib.ListN.{length, get_or, take, drop, set}
 use Rattle.outcome.specs.Lists.{those, all_of}
 use Rattle.outcome.proofs.Lists.{head_at, Passed, passed_none, passed_yes, passed_no, passed_fits}
@@ -91,6 +92,11 @@ days_decide day ds cs xs n places e =
     let same : map (λ (f : PlainFlow). f.day) (plain_flows ds cs xs) ≡ take n ds = listed_days ds cs xs ∙ ap (λ (m : ℕ). take m ds) (listed_length ds cs xs ∙ sym e) in
     ap (λ (l : List ℕ). counted (fitting places (after (is_day day) is_day_number (is_later_day day) l))) (sym same) ∙ sym (parts_decide (λ (f : PlainFlow). f.day) (is_day day) is_day_number (is_later_day day) (plain_flows ds cs xs) places)
 
+-- so an answer that the days of the flows decide is the one that the three lists decide
+pub answered : (day : Day) (ds cs : List ℕ) (xs : List Float) (n places a b c : ℕ) (o : Outcome ℕ) → n ≡ shortest (length ds) (length cs) (length xs) → places ≡ shortest a b c
+    → o ≡ counted (days_written day (take n ds) places) → o ≡ counted (listed_written day (plain_flows ds cs xs) (shortest a b c))
+answered day ds cs xs n places a b c o e f h = h ∙ ap (λ (m : ℕ). counted (days_written day (take n ds) m)) f ∙ days_decide day ds cs xs n (shortest a b c) e
+
 -- a refusal keeps the three lists
 pub all_kept : (o : Outcome (List PlainFlow)) (ds cs : List ℕ) (xs : List Float) → is_refused (counted o) ≡ true → ListedContents o ds cs xs ds cs xs
 all_kept o ds cs xs h = record { days-are = sym (kept (λ f. f.day) o ds h); currencies_are = sym (kept (λ f. f.currency) o cs h); amounts_are = sym (kept (λ f. f.amount) o xs h) }
@@ -156,3 +162,27 @@ module _ (day : Day) (flows : List PlainFlow) (ds₀ cs₀ : List ℕ) (xs₀ : 
         currencies_are = column_all (λ g. g.currency) (later_than day) flows cs₀ i k cs h w.passed w.currencies_at;
         amounts_are = column_all (λ g. g.amount) (later_than day) flows xs₀ i k xs h w.passed w.amounts_at;
       })
+
+-- ---- writing, where the first pass over n days gave a count
+
+module _ (day : Day) (ds cs : List ℕ) (xs : List Float) (ds₀ cs₀ : List ℕ) (xs₀ : List Float) (n places m : ℕ)
+    (shared : n ≡ shortest (length ds) (length cs) (length xs)) (lent : places ≡ shortest (length ds₀) (length cs₀) (length xs₀)) (counts : given m ≡ counted (days_written day (take n ds) places)) where
+  pub told : given m ≡ counted (listed_written day (plain_flows ds cs xs) (shortest (length ds₀) (length cs₀) (length xs₀)))
+  told = answered day ds cs xs n places (length ds₀) (length cs₀) (length xs₀) (given m) shared lent counts
+
+  module _ (i k : ℕ) (ds' cs' : List ℕ) (xs' : List Float) (w : Writing day (plain_flows ds cs xs) ds₀ cs₀ xs₀ i k ds' cs' xs') where
+    module _ (l : i < n) where
+      inside : i < length (plain_flows ds cs xs)
+      inside = omega (arith, listed_length ds cs xs)
+
+      pub places_at : day.0 < get_or ds i 0 → (k < length ds') × (k < length cs') × (k < length xs')
+      places_at h = places_for day (plain_flows ds cs xs) ds₀ cs₀ xs₀ (ap is_refused (sym told)) i k ds' cs' xs' w (listed_at ds cs xs i) inside (listed_at_lem ds cs xs i inside) (lt-ltb _ _ h)
+
+      pub turn_yes : day.0 < get_or ds i 0 → Writing day (plain_flows ds cs xs) ds₀ cs₀ xs₀ (i + 1) (k + 1) (set ds' k (get_or ds i 0)) (set cs' k (get_or cs i 0)) (set xs' k (get_or xs i nan))
+      turn_yes h = writing_yes day (plain_flows ds cs xs) ds₀ cs₀ xs₀ (ap is_refused (sym told)) i k ds' cs' xs' w (listed_at ds cs xs i) inside (listed_at_lem ds cs xs i inside) (lt-ltb _ _ h)
+
+      pub turn_no : get_or ds i 0 ≤ day.0 → Writing day (plain_flows ds cs xs) ds₀ cs₀ xs₀ (i + 1) k ds' cs' xs'
+      turn_no h = writing_no day (plain_flows ds cs xs) ds₀ cs₀ xs₀ (ap is_refused (sym told)) i k ds' cs' xs' w (listed_at ds cs xs i) inside (listed_at_lem ds cs xs i inside) (le-ltb _ _ h)
+
+    pub turns_done : n ≤ i → ListedContents (listed_written day (plain_flows ds cs xs) (shortest (length ds₀) (length cs₀) (length xs₀))) ds₀ cs₀ xs₀ ds' cs' xs'
+    turns_done h = writing_all day (plain_flows ds cs xs) ds₀ cs₀ xs₀ (ap is_refused (sym told)) i k ds' cs' xs' w (omega (arith, listed_length ds cs xs))

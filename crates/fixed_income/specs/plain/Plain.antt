@@ -2,13 +2,13 @@
 -- room holds.
 -- An amount is copied as it is, whatever it is. The logic has one NaN, so of a NaN this says that a
 -- NaN is written, and not which bits it has.
-use Rattle.std.specs.Prelude.{ℕ, min, ◌≡◌, Bool, List, [], ◌∷◌, ltb, Float, length}
+use Rattle.std.specs.Prelude.{ℕ, min, ◌≡◌, Bool, List, [], ◌∷◌, ltb, Float, length, Result}
 use Rattle.outcome.specs.Outcome.{Outcome}
+use Rattle.outcome.specs.Refusals.{outcome_of}
+use Rattle.outcome.specs.declared.Refusal.{Refusal}
 use Rattle.outcome.specs.Room.{fitting, counted, room_after}
 use Rattle.calendar.specs.dates.Dates.{is_day}
 use Rattle.calendar.specs.declared.dates.Day.{Day}
-use Rattle.cash_flow.specs.flow.Flows.{flows_outcome}
-use Rattle.cash_flow.specs.declared.flow.FlowsAnswer.{FlowsAnswer}
 use Rattle.fixed_income.specs.records.After.{after}
 
 -- a flow in plain lists: a serial day, a currency's number, an amount
@@ -50,8 +50,8 @@ pub record ListedContents (written : Outcome (List PlainFlow)) (days currencies 
   pub amounts_are : amounts' ≡ room_after (λ f. f.amount) written amounts
 
 -- how many were written, and what the three lists hold
-pub record FlowsAfterPlainPromise (day : Day) (flows : List PlainFlow) (days currencies : List ℕ) (amounts : List Float) (r : FlowsAnswer) (days' currencies' : List ℕ) (amounts' : List Float) : Type 0 where
-  pub answer : flows_outcome r ≡ counted (listed_written day flows (shortest (length days) (length currencies) (length amounts)))
+pub record FlowsAfterPlainPromise (day : Day) (flows : List PlainFlow) (days currencies : List ℕ) (amounts : List Float) (r : Result ℕ Refusal) (days' currencies' : List ℕ) (amounts' : List Float) : Type 0 where
+  pub answer : outcome_of r ≡ counted (listed_written day flows (shortest (length days) (length currencies) (length amounts)))
   pub contents : ListedContents (listed_written day flows (shortest (length days) (length currencies) (length amounts))) days currencies amounts days' currencies' amounts'
 
 -- what the days alone decide: the later days, refused alike

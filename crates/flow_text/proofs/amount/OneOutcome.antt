@@ -1,5 +1,6 @@
 -- No second outcome meets a promise: each fixes the answer and the bytes. A refusal's number is
 -- never 0.
+use Rattle.std.specs.Prelude.{Result}
 use Prim.Native.Nat.{ℕ}
 use mathlib.Core.Path.{◌≡◌}
 use mathlib.Core.List.{List}
@@ -8,9 +9,9 @@ use lib.ListN.{length}
 use lib.Ieee.{Float}
 use lib.Ieee.Scale.{finite}
 use Rattle.outcome.specs.Outcome.{and_then, passed_as, Numbered}
+use Rattle.outcome.specs.declared.Refusal.{Refusal}
 use Rattle.outcome.proofs.Outcomes.{unless_numbered, passed_numbered}
 use Rattle.number_text.specs.write.Writing.{written_length}
-use Rattle.number_text.specs.declared.write.LengthAnswer.{LengthAnswer}
 use Rattle.number_text.proofs.write.OneOutcome.{one_writes, one_takes}
 use Rattle.number_text.proofs.write.Shown.{writes_numbered}
 use Rattle.cash_flow.specs.currency.Amounts.{is_currency}
@@ -19,10 +20,10 @@ use Rattle.flow_text.specs.amount.AmountTexts.{amount_shown, AmountTakes, Amount
 
 -- ---- one outcome to each question
 
-pub one_amount_length : (x : Float) (c : Currency) (r s : LengthAnswer) → AmountTakes x c r → AmountTakes x c s → r ≡ s
+pub one_amount_length : (x : Float) (c : Currency) (r s : Result ℕ Refusal) → AmountTakes x c r → AmountTakes x c s → r ≡ s
 one_amount_length x c r s p q = one_takes (amount_shown x c) r s p q
 
-pub one-amount : (x : Float) (c : Currency) (d e f : List ℕ) (r s : LengthAnswer) → AmountWrites x c d e r → AmountWrites x c d f s → (r ≡ s) × (e ≡ f)
+pub one-amount : (x : Float) (c : Currency) (d e f : List ℕ) (r s : Result ℕ Refusal) → AmountWrites x c d e r → AmountWrites x c d f s → (r ≡ s) × (e ≡ f)
 one-amount x c d e f r s p q = one_writes (amount_shown x c) d e f r s p q
 
 -- ---- every refusal has its number

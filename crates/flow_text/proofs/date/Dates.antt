@@ -2,10 +2,12 @@
 use Prim.Native.Nat.{ℕ, ◌≤◌, ◌<◌, ◌^◌, max}
 use mathlib.Core.Path.{◌≡◌, ap, ◌∙◌}
 use mathlib.Core.Bool.{true, false}
-use mathlib.Core.List.{◌∷◌, ◌++◌}
+use mathlib.Core.List.{[], ◌∷◌, ◌++◌}
 use lib.ListN.{length, length-append}
 use Rattle.outcome.specs.Outcome.{given, refused}
-use Rattle.number_text.specs.write.Writing.{digits, places, padded_text}
+use Rattle.number_text.specs.write.Writing.{digits, places, padded_text, HasRoom, Puts}
+use Rattle.number_text.specs.declared.write.Writer.{Writer}
+use Rattle.number_text.proofs.write.Putting.{puts_then, room_first, room_then}
 use Rattle.calendar.specs.dates.Dates.{is_date}
 use Rattle.calendar.specs.declared.dates.Date.{Date}
 use Rattle.flow_text.specs.date.DateTexts.{date_text, date_shown}
@@ -34,6 +36,17 @@ pub date_long : (t : Date) → is_date t ≡ true → length (date_text t) ≡ 1
 date_long t h =
     let rest = (45 ∷ digits 2 t.month) ++ (45 ∷ digits 2 t.day) in
     ap length (date-digits t h) ∙ omega (arith, length-append (digits 4 t.year) rest, length_digits 4 t.year, month_day_long t.month t.day)
+
+-- its parts written one after the other
+pub date_puts : (u a b c d v : Writer) (t : Date) → is_date t ≡ true → HasRoom u (date_text t) → Puts u a (digits 4 t.year) → Puts a b (45 ∷ []) → Puts b c (digits 2 t.month) → Puts c d (45 ∷ []) → Puts d v (digits 2 t.day) → Puts u v (date_text t)
+date_puts u a b c d v t h room p q r s o =
+    let month = 45 ∷ digits 2 t.month in
+    let day = 45 ∷ digits 2 t.day in
+    let all : HasRoom u (digits 4 t.year ++ (month ++ day)) = rw (date-digits t h) at room in
+    let rest = room_then u a (digits 4 t.year) (month ++ day) p all in
+    let first = puts_then a b c (45 ∷ []) (digits 2 t.month) q r (room_first a month day rest) in
+    let last = puts_then c d v (45 ∷ []) (digits 2 t.day) s o (room_then a c month day first rest) in
+    rw (date-digits t h) (puts_then u a v (digits 4 t.year) (month ++ day) p (puts_then a c v month day first last rest) all)
 
 -- ---- a date
 

@@ -1,12 +1,13 @@
 -- No second outcome meets the promise: it fixes the answer and the bytes. A refusal's number is
 -- never 0.
+use Rattle.std.specs.Prelude.{Result}
 use mathlib.Core.Path.{◌≡◌}
 use mathlib.Core.List.{List}
 use native.Mathlib.Omega.{arith}
 use Rattle.outcome.specs.Outcome.{and_then, Numbered}
+use Rattle.outcome.specs.declared.Refusal.{Refusal}
 use Rattle.outcome.proofs.Outcomes.{unless_numbered}
 use Rattle.number_text.specs.write.Writing.{written_length}
-use Rattle.number_text.specs.declared.write.LengthAnswer.{LengthAnswer}
 use Rattle.number_text.proofs.write.OneOutcome.{one_writes}
 use Rattle.number_text.proofs.write.Shown.{writes_numbered}
 use Prim.Native.Nat.{ℕ}
@@ -14,7 +15,7 @@ use Rattle.calendar.specs.dates.Dates.{is_date}
 use Rattle.calendar.specs.declared.dates.Date.{Date}
 use Rattle.flow_text.specs.date.DateTexts.{date_shown, DateWrites}
 
-pub one-date : (t : Date) (d e f : List ℕ) (r s : LengthAnswer) → DateWrites t d e r → DateWrites t d f s → (r ≡ s) × (e ≡ f)
+pub one-date : (t : Date) (d e f : List ℕ) (r s : Result ℕ Refusal) → DateWrites t d e r → DateWrites t d f s → (r ≡ s) × (e ≡ f)
 one-date t d e f r s p q = one_writes (date_shown t) d e f r s p q
 
 date_shown_numbered : (t : Date) → Numbered (date_shown t)

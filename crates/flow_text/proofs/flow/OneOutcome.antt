@@ -1,5 +1,6 @@
 -- No second outcome meets a promise: each fixes the answer and the bytes. A refusal's number is
 -- never 0.
+use Rattle.std.specs.Prelude.{Result}
 use Prim.Native.Nat.{ℕ}
 use mathlib.Core.Path.{◌≡◌}
 use mathlib.Core.List.{List}
@@ -7,9 +8,9 @@ use native.Mathlib.Omega.{arith}
 use lib.ListN.{length}
 use lib.Ieee.Scale.{finite}
 use Rattle.outcome.specs.Outcome.{and_then, passed_as, Numbered}
+use Rattle.outcome.specs.declared.Refusal.{Refusal}
 use Rattle.outcome.proofs.Outcomes.{unless_numbered, passed_numbered}
 use Rattle.number_text.specs.write.Writing.{written_length}
-use Rattle.number_text.specs.declared.write.LengthAnswer.{LengthAnswer}
 use Rattle.number_text.proofs.write.OneOutcome.{one_writes, one_takes}
 use Rattle.number_text.proofs.write.Shown.{writes_numbered}
 use Rattle.calendar.specs.dates.Dates.{is_date}
@@ -19,10 +20,10 @@ use Rattle.flow_text.specs.flow.Texts.{flow_shown, FlowTakes, FlowWrites}
 
 -- ---- one outcome to each question
 
-pub one_flow_length : (f : CashFlow) (r s : LengthAnswer) → FlowTakes f r → FlowTakes f s → r ≡ s
+pub one_flow_length : (f : CashFlow) (r s : Result ℕ Refusal) → FlowTakes f r → FlowTakes f s → r ≡ s
 one_flow_length f r s p q = one_takes (flow_shown f) r s p q
 
-pub one-flow : (w : CashFlow) (d e f : List ℕ) (r s : LengthAnswer) → FlowWrites w d e r → FlowWrites w d f s → (r ≡ s) × (e ≡ f)
+pub one-flow : (w : CashFlow) (d e f : List ℕ) (r s : Result ℕ Refusal) → FlowWrites w d e r → FlowWrites w d f s → (r ≡ s) × (e ≡ f)
 one-flow w d e f r s p q = one_writes (flow_shown w) d e f r s p q
 
 -- ---- every refusal has its number

@@ -4,6 +4,7 @@ use mathlib.Core.Bool.{true, false, false≢true}
 use native.Mathlib.Omega.{arith}
 use lib.IntN.{pos}
 use lib.Signed.{lt_z}
+use Rattle.std.specs.Prelude.{None}
 use Rattle.outcome.specs.Outcome.{Outcome, given, refused}
 use Rattle.calendar.specs.dates.Dates.{is_date, is_before}
 use Rattle.calendar.specs.declared.dates.Date.{Date}
@@ -13,7 +14,6 @@ use Rattle.time_period.specs.declared.steps.TimePeriod.{TimePeriod}
 use Rattle.icma.specs.walks.Walks.{from}
 use Rattle.icma.specs.parts.Walk.{step, negated, turn_on, walk_on, turn_back, walk_back, base_from, first_part, last_part, to_last, to_end, to_first, long_parts, parts_from, icma_parts}
 use Rattle.icma.specs.parts.Leads.{leads_to}
-use Rattle.icma.specs.declared.parts.Broken.TheVariants.{Nothing}
 use Rattle.icma.specs.declared.parts.Parts.TheVariants.{Long}
 use Rattle.outcome.proofs.Walks.{walk-there, walk_more}
 use Rattle.time_period.proofs.steps.Steps.{step-later}
@@ -39,7 +39,7 @@ on_steps p t u h k e =
     ∙ rw (e, k) (walk-there (λ w. is_before w.at u) (turn_on p u) 3652058 (record { at = u; count = 1 }) k)
 
 -- a period from its own start is exactly one period
-pub one_period : (p : TimePeriod) (start end : Date) → is_date start ≡ true → lt_z (pos 0) p.num ≡ true → step p start ≡ given end → icma_parts p start end start ≡ given (Long Nothing Nothing 1)
+pub one_period : (p : TimePeriod) (start end : Date) → is_date start ≡ true → lt_z (pos 0) p.num ≡ true → step p start ≡ given end → icma_parts p start end start ≡ given (Long None None 1)
 unfolding icma_parts base_from parts_from long_parts to_first first_part to_end to_last last_part
 one_period p start end d h e =
     let l = step-later p start end d h e in

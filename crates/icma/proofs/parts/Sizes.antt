@@ -7,6 +7,7 @@ use native.Mathlib.Omega.{arith}
 use native.Mathlib.Nat.{mul-le-mul_left, mul-add, mul-zero}
 use lib.IntN.{ℤ, pos, neg_ℤ, nat_abs, ◌-ℤ◌}
 use lib.Signed.{lt_z}
+use Rattle.std.specs.Prelude.{Option, Some, None}
 use Rattle.outcome.specs.Outcome.{given, and_then, pick}
 use Rattle.outcome.proofs.Outcomes.{given_injective, then_given}
 use Rattle.rounding.proofs.Difference.{abs_gap}
@@ -16,19 +17,19 @@ use Rattle.calendar.proofs.dates.Dates.{IsDate, date-yes, number-to}
 use Rattle.calendar.proofs.dates.Order.{same_month, one_month, before-days, index_to}
 use Rattle.time_period.specs.steps.Steps.{absent, unit_step}
 use Rattle.icma.specs.walks.Walks.{from}
+use Rattle.icma.specs.walks.Ways.{left}
 use Rattle.icma.specs.parts.Walk.{step, negated, walk, turn_on, walk_on, turn_back, walk_back, base_from, short_parts, first_part, last_part, to_last, to_end, to_first, long_parts, parts_from, icma_parts}
 use Rattle.time_period.specs.declared.steps.TimePeriod.{TimePeriod}
 use Rattle.time_period.specs.declared.steps.TimePeriodUnit.{TimePeriodUnit}
 use Rattle.time_period.specs.declared.steps.TimePeriodUnit.TheVariants.{Daily, BusinessDaily, Weekly, Monthly, Annual}
 use Rattle.icma.specs.declared.walks.Walked.{Walked}
-use Rattle.icma.specs.declared.parts.Broken.{Broken}
-use Rattle.icma.specs.declared.parts.Broken.TheVariants.{Nothing, Part}
+use Rattle.icma.specs.declared.parts.Part.{Part}
 use Rattle.icma.specs.declared.parts.Parts.{Parts}
 use Rattle.icma.specs.declared.parts.Parts.TheVariants.{Short, Long}
 use Rattle.calendar.proofs.gregorian.Months.{at_most}
 use Rattle.time_period.proofs.steps.Steps.{months-step, years-step}
 use Rattle.time_period.proofs.steps.Frequencies.{months_in}
-use Rattle.icma.proofs.walks.Walking.{LastTurn, none_made, made, last_turn, walk_keeps, walk_ends, ahead, behind, turn_on_leads, turn_back_leads, on_ends, back_ends}
+use Rattle.icma.proofs.walks.Walking.{LastTurn, none_made, made, last_turn, walk_keeps, walk_ends, turn_on_leads, turn_back_leads, on_ends, back_ends}
 use Rattle.time_period.proofs.steps.Signs.{negative_back, moved_by, moved_back_by}
 use Rattle.time_period.proofs.steps.Steps.{step-later, step_earlier}
 
@@ -69,9 +70,9 @@ unfolding walk_back
 walk_back_is p limit t = refl
 
 -- how large each part may be
-abbrev pub BrokenSize : Broken → Type 0
-BrokenSize Nothing = 0 < 1
-BrokenSize (Part d l) = (1 ≤ l) × (l ≤ 3652059) × (nat_abs d ≤ l + 30)
+abbrev pub BrokenSize : Option Part → Type 0
+BrokenSize None = 0 < 1
+BrokenSize (Some x) = (1 ≤ x.length) × (x.length ≤ 3652059) × (nat_abs x.days ≤ x.length + 30)
 
 abbrev pub PartsSize : ℕ → Parts → Type 0
 PartsSize m (Short days l) = (1 ≤ l) × (l ≤ 3652059) × (days ≤ l + 30)
@@ -108,7 +109,7 @@ module _ (p : TimePeriod) (n : ℕ) (is : p.num ≡ pos n) (some : 1 ≤ months_
       → (x : Date) × (is_date x ≡ true) × (is_before limit x ≡ true) × (step (negated p) x ≡ given v.at)
   unfolding walk_back
   past_back limit t v d h k e =
-      by (last_turn (λ u. is_before limit u) (turn_back (negated p) limit) behind (turn_back_leads (negated p) limit below) 3652060 (from t) v d e)
+      by (last_turn (λ u. is_before limit u) (turn_back (negated p) limit) (left false) (turn_back_leads (negated p) limit below) 3652060 (from t) v d e)
     where
       by : LastTurn (λ u. is_before limit u) (turn_back (negated p) limit) (from t) v → (x : Date) × (is_date x ≡ true) × (is_before limit x ≡ true) × (step (negated p) x ≡ given v.at)
       by (none_made q) = absurd (true≢false (sym k ∙ ap (λ (w : Walked). is_before w.at limit) (sym q) ∙ h))
@@ -119,21 +120,21 @@ module _ (p : TimePeriod) (n : ℕ) (is : p.num ≡ pos n) (some : 1 ≤ months_
       → (x : Date) × (is_date x ≡ true) × (is_before x limit ≡ true) × (step p x ≡ given v.at)
   unfolding walk_on
   past-on limit t v d h k e =
-      by (last_turn (λ u. is_before u limit) (turn_on p limit) ahead (turn_on_leads p limit above) 3652060 (from t) v d e)
+      by (last_turn (λ u. is_before u limit) (turn_on p limit) (left true) (turn_on_leads p limit above) 3652060 (from t) v d e)
     where
       by : LastTurn (λ u. is_before u limit) (turn_on p limit) (from t) v → (x : Date) × (is_date x ≡ true) × (is_before x limit ≡ true) × (step p x ≡ given v.at)
       by (none_made q) = absurd (true≢false (sym k ∙ ap (λ (w : Walked). is_before limit w.at) (sym q) ∙ h))
       by (made x i j l) = (x.at, i, j, before_on limit x v l)
 
-  first-size : (start base : Date) (b : Walked) (x : Broken) → is_date start ≡ true → is_date base ≡ true → is_before base start ≡ false → walk_back (negated p) start base ≡ given b → first_part p start b.at ≡ given x → BrokenSize x
+  first-size : (start base : Date) (b : Walked) (x : Option Part) → is_date start ≡ true → is_date base ≡ true → is_before base start ≡ false → walk_back (negated p) start base ≡ given b → first_part p start b.at ≡ given x → BrokenSize x
   unfolding first_part
   first-size start base b x ds db h w e = by (is_before b.at start) refl e
     where
-      by : (c : Bool) → is_before b.at start ≡ c → pick c (and_then (step p b.at) (λ u. given (Part (pos (day_number u) -ℤ pos (day_number start)) (day_number u - day_number b.at)))) (given Nothing) ≡ given x → BrokenSize x
+      by : (c : Bool) → is_before b.at start ≡ c → pick c (and_then (step p b.at) (λ u. given (Some (record { days = pos (day_number u) -ℤ pos (day_number start); length = day_number u - day_number b.at })))) (given None) ≡ given x → BrokenSize x
       by false k e = subst BrokenSize (given_injective e) (omega arith)
       by true k e =
           let end = back_ends (negated p) start base b db below w in
-          let g = then_given (step p b.at) (λ u. given (Part (pos (day_number u) -ℤ pos (day_number start)) (day_number u - day_number b.at))) x e in
+          let g = then_given (step p b.at) (λ u. given (Some (record { days = pos (day_number u) -ℤ pos (day_number start); length = day_number u - day_number b.at }))) x e in
           let u = g.0 in
           let y = past_back start base b db h k w in
           let s = step-later p b.at u end.0.dated above g.1 in
@@ -144,15 +145,15 @@ module _ (p : TimePeriod) (n : ℕ) (is : p.num ≡ pos n) (some : 1 ≤ months_
           subst BrokenSize (given_injective g.2)
           (omega (arith, s.1), omega (arith, number-to u (date-yes u s.0)), abs_gap (day_number u) (day_number start) (day_number u - day_number b.at + 30) (omega (arith, s.1)) (omega (arith, s.1)))
 
-  last-size : (end base : Date) (e : Walked) (x : Broken) → is_date end ≡ true → is_date base ≡ true → is_before end base ≡ false → walk_on p end base ≡ given e → last_part (negated p) end e.at ≡ given x → BrokenSize x
+  last-size : (end base : Date) (e : Walked) (x : Option Part) → is_date end ≡ true → is_date base ≡ true → is_before end base ≡ false → walk_on p end base ≡ given e → last_part (negated p) end e.at ≡ given x → BrokenSize x
   unfolding last_part
   last-size end base v x ds db h w e = by (is_before end v.at) refl e
     where
-      by : (c : Bool) → is_before end v.at ≡ c → pick c (and_then (step (negated p) v.at) (λ s. given (Part (pos (day_number end) -ℤ pos (day_number s)) (day_number v.at - day_number s)))) (given Nothing) ≡ given x → BrokenSize x
+      by : (c : Bool) → is_before end v.at ≡ c → pick c (and_then (step (negated p) v.at) (λ s. given (Some (record { days = pos (day_number end) -ℤ pos (day_number s); length = day_number v.at - day_number s })))) (given None) ≡ given x → BrokenSize x
       by false k e = subst BrokenSize (given_injective e) (omega arith)
       by true k e =
           let stop = on_ends p end base v db above w in
-          let g = then_given (step (negated p) v.at) (λ s. given (Part (pos (day_number end) -ℤ pos (day_number s)) (day_number v.at - day_number s))) x e in
+          let g = then_given (step (negated p) v.at) (λ s. given (Some (record { days = pos (day_number end) -ℤ pos (day_number s); length = day_number v.at - day_number s }))) x e in
           let u = g.0 in
           let y = past-on end base v db h k w in
           let s = step_earlier (negated p) v.at u stop.0.dated below g.1 in
@@ -177,7 +178,7 @@ module _ (p : TimePeriod) (n : ℕ) (is : p.num ≡ pos n) (some : 1 ≤ months_
       let first = before-days b.at start (date-yes b.at stop.0.dated) (date-yes start ds) k in
       let f = number-to u (date-yes u s.0) in
       subst (PartsSize (months_in p.unit n)) (given_injective g.2)
-      (omega (arith, s.1), omega arith, by (last_turn (λ u. is_before end u) (turn_back (negated p) end) behind (turn_back_leads (negated p) end below) 3652060 (from r.0.at) b a.0.dated (walked r.0.at r.2)) r.0.at a.1 u stop.0.dated s.0 s.1 g.1 first refl)
+      (omega (arith, s.1), omega arith, by (last_turn (λ u. is_before end u) (turn_back (negated p) end) (left false) (turn_back_leads (negated p) end below) 3652060 (from r.0.at) b a.0.dated (walked r.0.at r.2)) r.0.at a.1 u stop.0.dated s.0 s.1 g.1 first refl)
     where
       walked : (t : Date) → walk_back (negated p) end t ≡ given b → walk 3652060 (λ u. is_before end u) (turn_back (negated p) end) (from t) ≡ given b
       walked t e = walk_back_is p end t ∙ e
@@ -224,7 +225,7 @@ module _ (p : TimePeriod) (n : ℕ) (is : p.num ≡ pos n) (some : 1 ≤ months_
           (t.dated, omega (arith, times (months_in p.unit n) x.count w.count t.counted))
 
       on-dated : walk 3652060 (λ u. is_before u limit) (turn_on p limit) (from t) ≡ given v → is_date v.at ≡ true
-      on-dated e = (walk_ends (λ u. is_before u limit) (turn_on p limit) ahead (turn_on_leads p limit above) 3652060 (from t) v d e).dated
+      on-dated e = (walk_ends (λ u. is_before u limit) (turn_on p limit) (left true) (turn_on_leads p limit above) 3652060 (from t) v d e).dated
 
   long_size : (start end base : Date) (x : Parts) → is_date start ≡ true → is_date end ≡ true → is_date base ≡ true → is_before base start ≡ false → is_before end base ≡ false
       → long_parts p (negated p) start end base ≡ given x → PartsSize (months_in p.unit n) x

@@ -15,7 +15,7 @@ use Rattle.calendar.specs.dates.Dates.{is_date, day_number}
 use Rattle.calendar.specs.declared.dates.Date.{Date}
 use Rattle.calendar.proofs.dates.Dates.{date-yes, number-to}
 use Rattle.time_period.specs.declared.steps.TimePeriod.{TimePeriod}
-use Rattle.time_period.proofs.steps.Signs.{negative_back}
+use Rattle.time_period.proofs.steps.Signs.{positive_not_least, minus_read, negative_back}
 use Rattle.icma.specs.declared.walks.Walked.{Walked}
 use Rattle.icma.proofs.walks.Walking.{on_ends, back_ends}
 use Rattle.icma.specs.parts.Walk.{negated, walk_on, walk_back, base_from}
@@ -27,6 +27,10 @@ gap_kept t u z d e q =
     let k : day_number u < 2 ^ 31 = omega (arith, number-to u (date-yes u e)) in
     let f = gap_fits (day_number t) (day_number u) h k in
     ap (λ (x : ℤ). to_z w32 (of_z w32 x)) q ∙ to_z-of_z (subst (SFits w32) (sym (to_z-of_z f) ∙ gap_is (day_number t) (day_number u) h k) f)
+
+-- a period above 0, its number negated as the code does
+pub negated_is : (p : TimePeriod) → SFits w32 p.num → lt_z (pos 0) p.num ≡ true → ◌≡◌ {A = TimePeriod} (record { num = to_z w32 (of_z w32 (pos 0 -ℤ to_z w32 (of_z w32 p.num))); unit = p.unit }) (negated p)
+negated_is p f h = ap {B = TimePeriod} (λ (z : ℤ). record { num = z; unit = p.unit }) (minus_read p.num f (positive_not_least p.num h))
 
 -- the base is a date of the calendar
 pub base_ends : (p : TimePeriod) (start end roll : Date) (w : Walked) → is_date roll ≡ true → lt_z (pos 0) p.num ≡ true → base_from p (negated p) start end roll ≡ given w → is_date w.at ≡ true

@@ -5,15 +5,15 @@ use mathlib.Core.Path.{◌≡◌, refl, sym, ◌∙◌, ap, ap₂}
 use mathlib.Core.Bool.{Bool, true, false, false≢true}
 use native.Mathlib.Omega.{arith}
 use native.Mathlib.Nat.{le_trans, suc-mul, mul-le-mul_right, div-mul-le_self}
-use lib.Dec.{leb}
+use lib.Dec.{eqb}
 use lib.IntN.{ℤ, pos, negsuc, nat_abs, ◌+ℤ◌}
 use lib.Signed.{lt_z}
-use borrow.Author.Tests.{ltb-true, le-ltb, leb-true, leb-false}
+use borrow.Author.Tests.{ltb-true, le-ltb, leb-true, eqb-false, ne_eqb}
 use Rattle.outcome.specs.Outcome.{Outcome, given, pick}
 use Rattle.outcome.proofs.Outcomes.{both_true}
 use Rattle.calendar.specs.dates.Dates.{is_date, is_before, month_index, month_date}
 use Rattle.calendar.specs.declared.dates.Date.{Date}
-use Rattle.calendar.proofs.dates.Dates.{date-yes, number-to}
+use Rattle.calendar.proofs.dates.Dates.{date-yes}
 use Rattle.calendar.proofs.dates.Order.{month_date_lem, month_order, index_to, days-before, days_not_before}
 use Rattle.date_step.specs.Steps.{months_later}
 use Rattle.time_period.specs.steps.Steps.{absent, unit_step}
@@ -21,10 +21,11 @@ use Rattle.time_period.specs.declared.steps.TimePeriod.{TimePeriod}
 use Rattle.time_period.specs.declared.steps.TimePeriodUnit.{TimePeriodUnit}
 use Rattle.time_period.specs.declared.steps.TimePeriodUnit.TheVariants.{Daily, BusinessDaily, Weekly, Monthly, Annual}
 use Rattle.icma.specs.walks.Walks.{step, walk, from, turn_on, turn_back}
-use Rattle.icma.specs.walks.Skips.{is_months, is_uncut, leap_on, leap_back}
+use Rattle.icma.specs.walks.Ways.{leads, is_past, left, turned}
+use Rattle.icma.specs.walks.Skips.{is_months, is_uncut, gap, moved, leap}
 use Rattle.icma.specs.declared.walks.Walked.{Walked}
 use Rattle.time_period.proofs.steps.Signs.{above}
-use Rattle.icma.proofs.walks.Walking.{Turned, ahead, ahead_is, behind, behind_is, turn_on_leads, turn_back_leads, walk_on_turn}
+use Rattle.icma.proofs.walks.Walking.{Turned, turned_leads, near, walk_on_turn}
 use Rattle.date_step.proofs.Steps.{months-to}
 use Rattle.icma.proofs.walks.Laws.{uncut}
 
@@ -33,13 +34,6 @@ pub record OnTheWay (more : Date → Bool) (turn : Walked → Outcome Walked) (�
   pub dated : is_date w.at ≡ true
   pub counted : w.count + φ w.at ≤ φ t
   pub same : walk 3652060 more turn w ≡ walk 3652060 more turn (from t)
-
--- any date is less than 3652060 days from either end
-pub near_end : (u : Date) → is_date u ≡ true → ahead u < 3652060
-near_end u h = omega (arith, ahead_is u, number-to u (date-yes u h))
-
-pub near_start : (u : Date) → is_date u ≡ true → behind u < 3652060
-near_start u h = omega (arith, behind_is u, number-to u (date-yes u h))
 
 -- turns one after another
 module _ (more : Date → Bool) (turn : Walked → Outcome Walked) (φ : Date → ℕ) (leads : (w v : Walked) → is_date w.at ≡ true → turn w ≡ given v → Turned φ w v) (near : (u : Date) → is_date u ≡ true → φ u < 3652060) (t : Date) (d : is_date t ≡ true) where
@@ -103,17 +97,13 @@ taken_off : (z : ℤ) (a b : ℕ) → lt_z z (pos 0) ≡ true → b + nat_abs z 
 taken_off (pos n) a b h e = absurd (omega (arith, ltb-true n 0 h))
 taken_off (negsuc n) a b h e = rw (le-ltb a (suc n) (omega arith)) (ap pos (omega arith))
 
--- as many whole periods as the gap from a to b has, less one month: they do not fill it
-within : (a b n : ℕ) → a < b → a + (b - a - 1) / n * n < b
-within a b n h = omega (arith, div-mul-le_self (b - a - 1) n)
-
 fewer : (n j k : ℕ) → j < k → j * n + n ≤ k * n
 fewer n j k h =
     let l : suc j ≤ k = omega arith in
     omega (arith, mul-le-mul_right n l, suc-mul j n)
 
 -- what is left of a number t above a limit l, after x and then n are taken off
-record Left (l t x n : ℕ) : Type 0 where
+record Fallen (l t x n : ℕ) : Type 0 where
   before : l < t - x
   after : l < t - x - n
   most : t - x ≤ t
@@ -121,8 +111,13 @@ record Left (l t x n : ℕ) : Type 0 where
   back : t - x - n + n ≡ t - x
   both : t - x - n ≡ t - (x + n)
 
-left : (l t x n : ℕ) → l + (x + n) < t → Left l t x n
-left l t x n h = record { before = omega arith; after = omega arith; most = omega arith; less = omega arith; back = omega arith; both = omega arith }
+fallen : (l t x n : ℕ) → l + (x + n) < t → Fallen l t x n
+fallen l t x n h = record { before = omega arith; after = omega arith; most = omega arith; less = omega arith; back = omega arith; both = omega arith }
+
+-- no month moved
+not_moved : (way : Bool) (i n : ℕ) → moved way i (0 * n) ≡ i
+not_moved true i n = omega arith
+not_moved false i n = omega arith
 
 module _ (p : TimePeriod) (limit t : Date) (d : is_date t ≡ true) (dl : is_date limit ≡ true) where
   abbrev n : ℕ
@@ -131,25 +126,18 @@ module _ (p : TimePeriod) (limit t : Date) (d : is_date t ≡ true) (dl : is_dat
   from_1 : 1 ≤ t.day
   from_1 = (date-yes t d).day-from
 
-  -- where it stands after k steps on, or back
-  stood_on : ℕ → Walked
-  stood_on k = record { at = month_date (month_index t + k * n) t.day; count = k }
+  -- where it stands after k steps
+  stood : Bool → ℕ → Walked
+  stood way k = record { at = month_date (moved way (month_index t) (k * n)) t.day; count = k }
 
-  stood_back : ℕ → Walked
-  stood_back k = record { at = month_date (month_index t - k * n) t.day; count = k }
-
-  first_on : stood_on 0 ≡ from t
-  unfolding stood_on
-  first_on = ap {B = Walked} (λ (x : Date). record { at = x; count = 0 }) (ap (λ (i : ℕ). month_date i t.day) (omega arith) ∙ made_up t d)
-
-  first_back : stood_back 0 ≡ from t
-  unfolding stood_back
-  first_back = ap {B = Walked} (λ (x : Date). record { at = x; count = 0 }) (ap (λ (i : ℕ). month_date i t.day) (omega arith) ∙ made_up t d)
+  first : (way : Bool) → stood way 0 ≡ from t
+  unfolding stood
+  first way = ap {B = Walked} (λ (x : Date). record { at = x; count = 0 }) (ap (λ (i : ℕ). month_date i t.day) (not_moved way (month_index t) n) ∙ made_up t d)
 
   module _ (u : is_months p.unit ≡ true) (low : t.day ≤ 28) where
-    one_on : lt_z (pos 0) p.num ≡ true → (j : ℕ) → month_index t + j * n + n < month_index limit → (is_before (stood_on j).at limit ≡ true) × (turn_on p limit (stood_on j) ≡ given (stood_on (suc j)))
-    unfolding turn_on stood_on
-    one_on sign j h =
+    one : (way : Bool) → leads way p.num ≡ true → (j : ℕ) → j * n + n < gap way (month_index t) (month_index limit) → (is_past way limit (stood way j).at ≡ true) × (turned way p limit (stood way j) ≡ given (stood way (suc j)))
+    unfolding turn_on turn_back stood
+    one true sign j h =
         let i = month_index t + j * n in
         let m = index_to limit (date-yes limit dl) in
         let e : i + n ≡ month_index t + suc j * n = omega (arith, suc-mul j n) in
@@ -157,12 +145,9 @@ module _ (p : TimePeriod) (limit t : Date) (d : is_date t ≡ true) (dl : is_dat
         let b = in_order i t.day limit from_1 dl (omega arith) in
         let c = in_order (i + n) t.day limit from_1 dl (omega arith) in
         (b.0, rw (s, c.1) (ap₂ {C = Outcome Walked} (λ (x y : ℕ). given (record { at = month_date x t.day; count = y })) e (omega arith)))
-
-    one_back : lt_z p.num (pos 0) ≡ true → (j : ℕ) → month_index limit + (j * n + n) < month_index t → (is_before limit (stood_back j).at ≡ true) × (turn_back p limit (stood_back j) ≡ given (stood_back (suc j)))
-    unfolding turn_back stood_back
-    one_back sign j h =
+    one false sign j h =
         let i = month_index t - j * n in
-        let r = left (month_index limit) (month_index t) (j * n) n h in
+        let r = fallen (month_index limit) (month_index t) (j * n) n (omega arith) in
         let m = index_to t (date-yes t d) in
         let f : i ≤ 119987 = le_trans r.most m in
         let g : i - n ≤ 119987 = le_trans r.less m in
@@ -172,48 +157,40 @@ module _ (p : TimePeriod) (limit t : Date) (d : is_date t ≡ true) (dl : is_dat
         let c = in_order_back (i - n) t.day limit from_1 g dl r.after in
         (b.0, rw (s, c.1) (ap₂ {C = Outcome Walked} (λ (x y : ℕ). given (record { at = month_date x t.day; count = y })) e (omega arith)))
 
-    leapt_on : lt_z (pos 0) p.num ≡ true → (k : ℕ) → month_index t + k * n < month_index limit → OnTheWay (λ u. is_before u limit) (turn_on p limit) ahead t (stood_on k)
-    leapt_on sign k l =
-        turns (λ u. is_before u limit) (turn_on p limit) ahead (turn_on_leads p limit sign) near_end t d stood_on first_on k
-        (λ j h. one_on sign j (omega (arith, fewer n j k h)))
+    leapt : (way : Bool) → leads way p.num ≡ true → (k : ℕ) → k * n < gap way (month_index t) (month_index limit) → OnTheWay (λ u. is_past way limit u) (turned way p limit) (left way) t (stood way k)
+    leapt way sign k l =
+        turns (λ u. is_past way limit u) (turned way p limit) (left way) (turned_leads way p limit sign) (near way) t d (stood way) (first way) k
+        (λ j h. one way sign j (omega (arith, fewer n j k h)))
 
-    leapt_back : lt_z p.num (pos 0) ≡ true → (k : ℕ) → month_index limit + k * n < month_index t → OnTheWay (λ u. is_before limit u) (turn_back p limit) behind t (stood_back k)
-    leapt_back sign k l =
-        turns (λ u. is_before limit u) (turn_back p limit) behind (turn_back_leads p limit sign) near_start t d stood_back first_back k
-        (λ j h. one_back sign j (omega (arith, fewer n j k h)))
-
-  pub on_the_way : lt_z (pos 0) p.num ≡ true → OnTheWay (λ u. is_before u limit) (turn_on p limit) ahead t (leap_on p limit t)
-  unfolding leap_on stood_on
-  on_the_way sign = by (is_uncut p t) refl (leb (month_index limit) (month_index t)) refl
+  pub on_the_way : (way : Bool) → leads way p.num ≡ true → OnTheWay (λ u. is_past way limit u) (turned way p limit) (left way) t (leap way p limit t)
+  unfolding leap stood
+  on_the_way way sign = by (is_uncut p t) refl (eqb g 0) refl
     where
+      g : ℕ
+      g = gap way (month_index t) (month_index limit)
+
       k : ℕ
-      k = (month_index limit - month_index t - 1) / n
+      k = (g - 1) / n
 
-      still : OnTheWay (λ u. is_before u limit) (turn_on p limit) ahead t (from t)
-      still = stands (λ u. is_before u limit) (turn_on p limit) ahead (turn_on_leads p limit sign) near_end t d
+      still : OnTheWay (λ u. is_past way limit u) (turned way p limit) (left way) t (from t)
+      still = stands (λ u. is_past way limit u) (turned way p limit) (left way) (turned_leads way p limit sign) (near way) t d
 
-      by : (b : Bool) → is_uncut p t ≡ b → (c : Bool) → leb (month_index limit) (month_index t) ≡ c → OnTheWay (λ u. is_before u limit) (turn_on p limit) ahead t (pick b (pick c (from t) (record { at = month_date (month_index t + k * n) t.day; count = k })) (from t))
+      by : (b : Bool) → is_uncut p t ≡ b → (c : Bool) → eqb g 0 ≡ c → OnTheWay (λ u. is_past way limit u) (turned way p limit) (left way) t (pick b (pick c (from t) (record { at = month_date (moved way (month_index t) (k * n)) t.day; count = k })) (from t))
       by true e true q = still
       by true e false q =
-          let l : month_index t < month_index limit = leb-false (month_index limit) (month_index t) q in
+          let z : g ≡ 0 → ⊥ = eqb-false g 0 q in
+          let l : k * n < g = omega (arith, div-mul-le_self (g - 1) n) in
           let a = both_true _ _ e in
-          leapt_on a.0 (leb-true t.day 28 a.1) sign k (within (month_index t) (month_index limit) n l)
+          leapt a.0 (leb-true t.day 28 a.1) way sign k l
       by false e c q = still
 
-  pub back_the_way : lt_z p.num (pos 0) ≡ true → OnTheWay (λ u. is_before limit u) (turn_back p limit) behind t (leap_back p limit t)
-  unfolding leap_back stood_back
-  back_the_way sign = by (is_uncut p t) refl (leb (month_index t) (month_index limit)) refl
-    where
-      k : ℕ
-      k = (month_index t - month_index limit - 1) / n
+-- what the code finds of the months h and k of the two dates
+module _ (way : Bool) (p : TimePeriod) (limit t : Date) (h k g : ℕ) (e : h ≡ month_index t) (f : k ≡ month_index limit) (m : g ≡ gap way h k) where
+  pub leap_none : is_uncut p t ≡ true → g ≡ 0 → from t ≡ leap way p limit t
+  unfolding leap
+  leap_none u z = rw (u, ← e, ← f, ← m, z)
 
-      still : OnTheWay (λ u. is_before limit u) (turn_back p limit) behind t (from t)
-      still = stands (λ u. is_before limit u) (turn_back p limit) behind (turn_back_leads p limit sign) near_start t d
-
-      by : (b : Bool) → is_uncut p t ≡ b → (c : Bool) → leb (month_index t) (month_index limit) ≡ c → OnTheWay (λ u. is_before limit u) (turn_back p limit) behind t (pick b (pick c (from t) (record { at = month_date (month_index t - k * n) t.day; count = k })) (from t))
-      by true e true q = still
-      by true e false q =
-          let l : month_index limit < month_index t = leb-false (month_index t) (month_index limit) q in
-          let a = both_true _ _ e in
-          leapt_back a.0 (leb-true t.day 28 a.1) sign k (within (month_index limit) (month_index t) n l)
-      by false e c q = still
+  pub leap_some : is_uncut p t ≡ true → (g ≡ 0 → ⊥) → (n : ℕ) → n ≡ nat_abs p.num → (u : Date) → u ≡ month_date (moved way h ((g - 1) / n * n)) t.day
+      → ◌≡◌ {A = Walked} (record { at = u; count = (g - 1) / n }) (leap way p limit t)
+  unfolding leap
+  leap_some u z n l v q = rw (q, u, ← e, ← f, ← m, ← l, ne_eqb g 0 z)

@@ -1,5 +1,5 @@
 -- What the inner functions say of many steps at once; no promise of an entry point rests on this.
-use Rattle.std.specs.Prelude.{◌+◌, ◌-◌, ◌*◌, ◌/◌, Bool, true, false, leb, nat_abs}
+use Rattle.std.specs.Prelude.{ℕ, ◌+◌, ◌-◌, ◌*◌, ◌/◌, Bool, true, false, eqb, leb, nat_abs}
 use Rattle.outcome.specs.Outcome.{pick, both}
 use Rattle.calendar.specs.dates.Dates.{month_index, month_date}
 use Rattle.calendar.specs.declared.dates.Date.{Date}
@@ -20,19 +20,21 @@ is_months Annual = false
 abbrev pub is_uncut : TimePeriod → Date → Bool
 is_uncut p t = both (is_months p.unit) (leb t.day 28)
 
--- many of them at once: as many as lead to a month before the limit's, or back to one after it
-unfoldable pub leap_on : TimePeriod → Date → Date → Walked
-leap_on p limit t =
-    let n = nat_abs p.num in
-    let k = (month_index limit - month_index t - 1) / n in
-    pick (is_uncut p t)
-    (pick (leb (month_index limit) (month_index t)) (from t) (record { at = month_date (month_index t + k * n) t.day; count = k }))
-    (from t)
+-- the months from one to another that lies on the way (`true`) or back (`false`), and else 0
+abbrev pub gap : Bool → ℕ → ℕ → ℕ
+gap true from to = to - from
+gap false from to = from - to
 
-unfoldable pub leap_back : TimePeriod → Date → Date → Walked
-leap_back q limit t =
-    let n = nat_abs q.num in
-    let k = (month_index t - month_index limit - 1) / n in
-    pick (is_uncut q t)
-    (pick (leb (month_index t) (month_index limit)) (from t) (record { at = month_date (month_index t - k * n) t.day; count = k }))
+abbrev pub moved : Bool → ℕ → ℕ → ℕ
+moved true from months = from + months
+moved false from months = from - months
+
+-- many of them at once: as many as lead to a month before the limit's, or back to one after it
+unfoldable pub leap : Bool → TimePeriod → Date → Date → Walked
+leap way p limit t =
+    let n = nat_abs p.num in
+    let g = gap way (month_index t) (month_index limit) in
+    let k = (g - 1) / n in
+    pick (is_uncut p t)
+    (pick (eqb g 0) (from t) (record { at = month_date (moved way (month_index t) (k * n)) t.day; count = k }))
     (from t)

@@ -1,20 +1,13 @@
 -- A walk by a period: from a date on, or back, step by step to a limit, counting the dates it
 -- reaches.
 use Rattle.std.specs.Prelude.{ℕ, ◌+◌, Bool}
-use Rattle.outcome.specs.Outcome.{Outcome, given, refused, and_then, pick}
+use Rattle.outcome.specs.Outcome.{Outcome, given, and_then, pick}
 use Rattle.outcome.specs.Walks.{walked}
 use Rattle.calendar.specs.dates.Dates.{is_before}
 use Rattle.calendar.specs.declared.dates.Date.{Date}
 use Rattle.time_period.specs.steps.Steps.{stepped, absent}
 use Rattle.time_period.specs.declared.steps.TimePeriod.{TimePeriod}
 use Rattle.icma.specs.declared.walks.Walked.{Walked}
-use Rattle.icma.specs.declared.walks.WalkAnswer.{WalkAnswer}
-use Rattle.icma.specs.declared.walks.WalkAnswer.TheVariants as walk-answer
-
--- the outcome that an answer is
-abbrev pub walk_outcome : WalkAnswer → Outcome Walked
-walk_outcome (walk-answer.Walked w) = given w
-walk_outcome (walk-answer.Refused n) = refused n
 
 -- one step from a date, by a period or by the same period negated; a date outside the range stops
 -- it with 1

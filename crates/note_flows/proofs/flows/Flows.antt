@@ -1,4 +1,4 @@
--- The flows of an accepted note, one turn at a time; the days of the calendar are never used up.
+-- The flows of an accepted note, one after another; the days of the calendar are never used up.
 use Prim.Native.Nat.{ℕ, zero, suc, ◌-◌, ◌≤◌, ◌<◌}
 use mathlib.Core.Path.{◌≡◌, refl, sym, ◌∙◌, ap, subst}
 use mathlib.Core.Bool.{Bool, true, false}
@@ -12,38 +12,18 @@ use Rattle.outcome.proofs.Outcomes.{given_injective, given_not_refused, then_giv
 use Rattle.calendar.specs.dates.Dates.{is_date, is_before, day_number}
 use Rattle.calendar.specs.declared.dates.Date.{Date}
 use Rattle.calendar.proofs.dates.Dates.{date-yes, date_is, number-from, number-to}
-use Rattle.business_days.specs.table.Table.{is_table, ascending}
-use Rattle.business_days.proofs.table.Table.{table_ascends}
 use Rattle.day_adjust.specs.Adjustment.{adjusted}
 use Rattle.day_adjust.specs.declared.DayAdjust.{DayAdjust}
 use Rattle.day_adjust.specs.declared.DayAdjust.TheVariants as rule
 use Rattle.day_adjust.proofs.Adjusting.{none_stays, adjusted_gives}
 use Rattle.time_period.specs.steps.Steps.{absent, stepped}
-use Rattle.day_fraction.specs.Fractions.{Span}
-use Rattle.day_count_conv.specs.conventions.Conventions.{fractions_in_f64, rolled_from, by_rule, year_fraction}
-use Rattle.day_count_conv.proofs.conventions.Judged.{span_fraction, roll_dated_lem}
+use Rattle.day_count_conv.specs.conventions.Conventions.{fractions_in_f64, rolled_from, year_fraction}
 use Rattle.cash_flow.specs.declared.flow.CashFlow.{CashFlow}
-use Rattle.bond.specs.note.Notes.{is_position, first_coupon_end, nominal_of, coupon_amount}
+use Rattle.bond.specs.note.Notes.{first_coupon_end, nominal_of, coupon_amount}
 use Rattle.bond.specs.declared.note.Note.{Note}
 use Rattle.time_period.proofs.steps.Steps.{step-later}
-use Rattle.bond.proofs.note.Ends.{Accepted, passed, first_end_later}
+use Rattle.bond.proofs.note.Ends.{Accepted, first_end_later}
 use Rattle.note_flows.specs.flows.NoteFlows.{paid, coupon_flow, followed, later_flows, note_flows}
-use Rattle.note_flows.specs.schedule.Schedule.{Dated}
-use Rattle.note_flows.specs.flows.Turns.{JudgedNote, step_of, flows_due, most, Turned}
-use Rattle.note_flows.specs.declared.schedule.Due.{Due}
-use Rattle.note_flows.specs.declared.schedule.Due.TheVariants.{First, After, Nothing}
-use Rattle.note_flows.specs.declared.flows.Step.{Step}
-use Rattle.note_flows.specs.declared.flows.Step.TheVariants.{Pay, Stop}
-
--- ---- what was judged
-
-pub judged-table : (n : Note) (position : Float) (table : List ℕ) → JudgedNote n position table → ascending table ≡ true
-judged-table n position table h = table_ascends table (passed (is_position position) (is_table table) n n h).table_taken
-
-pub judged-note : (n : Note) (position : Float) (table : List ℕ) → JudgedNote n position table → Accepted n
-judged-note n position table h = (passed (is_position position) (is_table table) n n h).note
-
--- ---- an amount on the adjusted date
 
 -- an adjusted date is one of the calendar
 pub adjusted-dated : (r : DayAdjust) (t u : Date) (table : List ℕ) → is_date t ≡ true → adjusted r t table ≡ given u → is_date u ≡ true
@@ -52,47 +32,22 @@ adjusted-dated rule.Following t u table d e = date_is u (adjusted_gives rule.Fol
 adjusted-dated rule.Preceding t u table d e = date_is u (adjusted_gives rule.Preceding t table u d (λ q. let z : ◌≡◌ {A = ℕ} 0 1 = cc in omega arith) e).dated
 adjusted-dated rule.Modified t u table d e = date_is u (adjusted_gives rule.Modified t table u d (λ q. let z : ◌≡◌ {A = ℕ} 0 1 = cc in omega arith) e).dated
 
-module _ (n : Note) (table : List ℕ) (t : Date) (x : Float) (next : Due) where
-  pub pay_paid : (u : Date) (day : ℕ) → adjusted n.business_day_rule t table ≡ given u → day ≡ day_number u → Pay day (record { date = u; currency = n.currency; amount = x }) next ≡ step_of (paid n table t x) next
-  unfolding paid
-  pay_paid u day e d = ap (λ (k : ℕ). Pay k (record { date = u; currency = n.currency; amount = x }) next) d ∙ sym (ap (λ (o : Outcome Date). step_of (and_then o (λ v. given (record { date = v; currency = n.currency; amount = x }))) next) e)
-
-  pub pay_stop : (k : ℕ) → adjusted n.business_day_rule t table ≡ refused k → Stop k ≡ step_of (paid n table t x) next
-  unfolding paid
-  pay_stop k e = sym (ap (λ (o : Outcome Date). step_of (and_then o (λ v. given (record { date = v; currency = n.currency; amount = x }))) next) e)
-
--- ---- a coupon
-
-module _ (n : Note) (position : Float) (table : List ℕ) (start end roll : Date) (s : Span start end) (d : is_date roll ≡ true) where
-  flow_of : (o : Outcome Float) → by_rule fractions_in_f64 n.day_count_convention start end (rolled_from roll n.period) ≡ o → coupon_flow n position table start end roll ≡ and_then o (λ fraction. paid n table end (coupon_amount position n fraction))
-  unfolding coupon_flow
-  flow_of o e =
-      ap (λ (y : Outcome Float). and_then y (λ fraction. paid n table end (coupon_amount position n fraction)))
-      (span_fraction fractions_in_f64 n.day_count_convention start end (rolled_from roll n.period) s (roll_dated_lem n.day_count_convention roll d) ∙ e)
-
-  pub coupon_pays : (fraction x : Float) (r : Step) → by_rule fractions_in_f64 n.day_count_convention start end (rolled_from roll n.period) ≡ given fraction → x ≡ coupon_amount position n fraction → r ≡ step_of (paid n table end x) (After end) → r ≡ step_of (coupon_flow n position table start end roll) (After end)
-  coupon_pays fraction x r e a q =
-      q ∙ ap (λ (y : Float). step_of (paid n table end y) (After end)) a ∙ ap (λ (o : Outcome CashFlow). step_of o (After end)) (sym (flow_of (given fraction) e))
-
-  pub coupon_stops : (k : ℕ) → by_rule fractions_in_f64 n.day_count_convention start end (rolled_from roll n.period) ≡ refused k → Stop k ≡ step_of (coupon_flow n position table start end roll) (After end)
-  coupon_stops k e = ap (λ (o : Outcome CashFlow). step_of o (After end)) (sym (flow_of (refused k) e))
-
 -- ---- behind a coupon
 
 module _ (n : Note) (position : Float) (table : List ℕ) where
-  next_flows : ℕ → Date → Outcome Date → Outcome (List CashFlow)
+  unfoldable pub next_flows : ℕ → Date → Outcome Date → Outcome (List CashFlow)
   next_flows k t o = and_then o (λ next. followed (coupon_flow n position table t next t) (later_flows k n position table next))
 
-  last_flows : Outcome (List CashFlow)
+  unfoldable pub last_flows : Outcome (List CashFlow)
   last_flows = followed (paid n table n.maturity (nominal_of position n)) (given [])
 
-  after_next : (k : ℕ) (t : Date) (o : Outcome Date) → is_before t n.maturity ≡ true → stepped n.period absent t ≡ o → later_flows (suc k) n position table t ≡ next_flows k t o
+  pub after_next : (k : ℕ) (t : Date) (o : Outcome Date) → is_before t n.maturity ≡ true → stepped n.period absent t ≡ o → later_flows (suc k) n position table t ≡ next_flows k t o
   unfolding later_flows next_flows
   after_next k t o h e =
       ap (λ (b : Bool). elim b as (λ x. Outcome (List CashFlow)) [ true ↦ next_flows k t (stepped n.period absent t) | false ↦ followed (paid n table n.maturity (nominal_of position n)) (given []) ]) h
       ∙ ap (next_flows k t) e
 
-  after_last : (k : ℕ) (t : Date) → is_before t n.maturity ≡ false → later_flows (suc k) n position table t ≡ last_flows
+  pub after_last : (k : ℕ) (t : Date) → is_before t n.maturity ≡ false → later_flows (suc k) n position table t ≡ last_flows
   unfolding later_flows last_flows
   after_last k t h =
       ap (λ (b : Bool). elim b as (λ x. Outcome (List CashFlow)) [ true ↦ and_then (stepped n.period absent t) (λ next. followed (coupon_flow n position table t next t) (later_flows k n position table next)) | false ↦ followed (paid n table n.maturity (nominal_of position n)) (given []) ]) h
@@ -119,50 +74,6 @@ module _ (n : Note) (position : Float) (table : List ℕ) where
     -- so a larger calendar would change nothing
     pub never_used_up : (k : ℕ) (t : Date) → is_date t ≡ true → 3652059 ≤ k → later_flows k n position table t ≡ later_flows 3652059 n position table t
     never_used_up k t d h = let f = number-from t (date-yes t d) in enough k 3652059 t d (omega arith) (omega arith)
-
-  -- ---- a turn by what is due
-
-  turned_by : (due next : Due) (o : Outcome CashFlow) (r : Step) → flows_due n position table due ≡ followed o (flows_due n position table next) → Dated next → most next < most due → r ≡ step_of o next → Turned n position table due r
-  turned_by due next (given x) r e d f q = subst (Turned n position table due) (sym q) (record { left = e; dated = d; fewer = f }, refl)
-  turned_by due next (refused k) r e d f q = subst (Turned n position table due) (sym q) e
-
-  module _ (a : Accepted n) where
-    -- the first coupon
-    pub first_pays : (t : Date) (r : Step) → first_coupon_end n ≡ given t → r ≡ step_of (coupon_flow n position table n.issue_date t t) (After t) → Turned n position table First r
-    unfolding note_flows
-    first_pays t r e q =
-        let s = first_end_later n t a.issued e in
-        turned_by First (After t) (coupon_flow n position table n.issue_date t t) r
-        (ap (λ (o : Outcome Date). and_then o (λ end. followed (coupon_flow n position table n.issue_date end end) (later_flows 3652059 n position table end))) e)
-        s.0 (omega arith) q
-
-    pub first_stops : (k : ℕ) → first_coupon_end n ≡ refused k → Turned n position table First (Stop k)
-    unfolding note_flows
-    first_stops k e = ap (λ (o : Outcome Date). and_then o (λ end. followed (coupon_flow n position table n.issue_date end end) (later_flows 3652059 n position table end))) e
-
-    module _ (t : Date) (d : is_date t ≡ true) where
-      -- a later one
-      pub next_pays : (u : Date) (r : Step) → is_before t n.maturity ≡ true → stepped n.period absent t ≡ given u → r ≡ step_of (coupon_flow n position table t u t) (After u) → Turned n position table (After t) r
-      unfolding next_flows
-      next_pays u r b e q =
-          let s = step-later n.period t u d a.period e in
-          let m = number-to u (date-yes u s.0) in
-          let f = number-from t (date-yes t d) in
-          turned_by (After t) (After u) (coupon_flow n position table t u t) r
-          (after_next 3652058 t (given u) b e ∙ ap (followed (coupon_flow n position table t u t)) (enough a 3652058 3652059 u s.0 (omega (arith, s.1)) (omega (arith, s.1))))
-          s.0 (omega (arith, s.1)) q
-
-      pub next_stops : (k : ℕ) → is_before t n.maturity ≡ true → stepped n.period absent t ≡ refused k → Turned n position table (After t) (Stop k)
-      unfolding next_flows
-      next_stops k b e = after_next 3652058 t (refused k) b e
-
-      -- the nominal
-      pub last_pays : (x : Float) (r : Step) → is_before t n.maturity ≡ false → x ≡ nominal_of position n → r ≡ step_of (paid n table n.maturity x) Nothing → Turned n position table (After t) r
-      unfolding last_flows
-      last_pays x r b e q =
-          let m = number-to t (date-yes t d) in
-          turned_by (After t) Nothing (paid n table n.maturity (nominal_of position n)) r (after_last 3652058 t b) (omega arith) (omega arith)
-          (q ∙ ap (λ (y : Float). step_of (paid n table n.maturity y) Nothing) e)
 
 -- ---- what every flow has, and how many there are at most
 

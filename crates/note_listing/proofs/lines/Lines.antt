@@ -1,21 +1,22 @@
 -- Lines, one after the other: how long they are, and how they are written.
-use Prim.Native.Nat.{ℕ, ◌+◌, ◌≤◌, ◌<◌}
-use mathlib.Core.Path.{◌≡◌, refl, sym, ap, subst, ◌∙◌}
+use Prim.Native.Nat.{ℕ, ◌+◌, ◌≤◌, ◌<◌, min}
+use Rattle.std.specs.Borrow.{Bor}
+use mathlib.Core.Path.{◌≡◌, refl, sym, ap, ap₂, subst, ◌∙◌}
 use mathlib.Core.Bool.{true}
 use mathlib.Core.List.{List, [], ◌∷◌, ◌++◌}
 use native.Mathlib.Omega.{arith}
 use lib.Dec.{T}
 use lib.Ieee.{Float, nan, binary64, fits}
 use lib.Ieee.Scale.{finite}
-use lib.ListN.{length, drop, get_or, length-append, drop_of_length-le}
+use lib.ListN.{length, drop, get_or, length-append, length-drop}
 use Rattle.outcome.proofs.Lists.{head_at}
 use Rattle.outcome.specs.Outcome.{Outcome, given, refused, and_then, passed_as}
 use Rattle.outcome.proofs.Outcomes.{given_injective, refused_injective, given_not_refused, passed_given, passed_refused}
 use Rattle.outcome.proofs.Tallies.{tally, tally_more}
-use Rattle.number_text.specs.write.Writing.{put, Wrote, Written, Takes}
+use Rattle.number_text.specs.write.Writing.{put, Puts, Written}
+use Rattle.number_text.specs.declared.write.Writer.{Writer}
 use Rattle.number_text.proofs.write.Writers.{written_fits, written_refused}
-use Rattle.number_text.proofs.write.Putting.{put-none, put-put, length-put}
-use Rattle.number_text.specs.declared.write.LengthAnswer.TheVariants.{Length, Refused}
+use Rattle.number_text.proofs.write.Putting.{put-none, put-put}
 use Rattle.calendar.specs.dates.Dates.{is_date}
 use Rattle.cash_flow.specs.declared.currency.Currency.{Currency}
 use Rattle.cash_flow.specs.declared.flow.CashFlow.{CashFlow}
@@ -36,7 +37,7 @@ pub line_refused : (f : CashFlow) (n : ℕ) → flow_shown f ≡ refused n → l
 unfolding line_shown
 line_refused f n e = rw (e)
 
-pub line_takes : (f : CashFlow) (k : ℕ) → T (fits binary64 f.amount) → given k ≡ passed_as length (flow_shown f) → (Takes (line_shown f) (Length (k + 1))) × (k + 1 ≤ 331)
+pub line_takes : (f : CashFlow) (k : ℕ) → T (fits binary64 f.amount) → given k ≡ passed_as length (flow_shown f) → (given (k + 1) ≡ passed_as length (line_shown f)) × (k + 1 ≤ 331)
 line_takes f k h e =
     let g = passed_given length (flow_shown f) k (sym e) in
     let s = flow_was f g.0 g.1 in
@@ -45,18 +46,26 @@ line_takes f k h e =
     let same : length (flow_text f) ≡ length g.0 = ap length s.2 in
     (rw (line_given f g.0 g.1, length-append g.0 (10 ∷ []), n), omega arith)
 
-pub line_takes_none : (f : CashFlow) (n : ℕ) → refused n ≡ passed_as length (flow_shown f) → Takes (line_shown f) (Refused n)
+pub line_takes_none : (f : CashFlow) (n : ℕ) → refused n ≡ passed_as length (flow_shown f) → refused n ≡ passed_as length (line_shown f)
 line_takes_none f n e = rw (line_refused f n (passed_refused length (flow_shown f) n (sym e)))
 
 -- ---- lines one after the other
 
--- the next flow of two lists
-pub flows-next : (c : Currency) (ds : List ℕ) (xs : List Float) (i : ℕ) → i < length ds → i < length xs → flows_shown c (drop i ds) (drop i xs) ≡ flow_on c (get_or ds i 0) (get_or xs i nan) ∷ flows_shown c (drop (i + 1) ds) (drop (i + 1) xs)
-flows-next c ds xs i h k =
-    rw (head_at ds i 0 h, head_at xs i nan k)
+-- the next flow of two lists, of which as many pairs came as ys has
+pub flows-next : (c : Currency) (ds : List ℕ) (xs : List Float) (ys : List (Bor ℕ × Bor Float)) (p : Bor ℕ × Bor Float) → (length ys < length ds) × (length ys < length xs) × ((d : ℕ) → p.0.now ≡ get_or ds (length ys) d) × ((d : Float) → p.1.now ≡ get_or xs (length ys) d)
+    → flows_shown c (drop (length ys) ds) (drop (length ys) xs) ≡ flow_on c p.0.now p.1.now ∷ flows_shown c (drop (length (ys ++ (p ∷ []))) ds) (drop (length (ys ++ (p ∷ []))) xs)
+flows-next c ds xs ys p (h, k, d, x) =
+    ap₂ (flows_shown c) (head_at ds (length ys) 0 h) (head_at xs (length ys) nan k)
+    ∙ ap₂ (λ (a : ℕ) (b : Float). flow_on c a b ∷ flows_shown c (drop (length ys + 1) ds) (drop (length ys + 1) xs)) (sym (d 0)) (sym (x nan))
+    ∙ ap (λ (j : ℕ). flow_on c p.0.now p.1.now ∷ flows_shown c (drop j ds) (drop j xs)) (sym (length-append ys (p ∷ [])))
 
-pub flows-none : (c : Currency) (ds : List ℕ) (xs : List Float) (i : ℕ) → length ds ≤ i → flows_shown c (drop i ds) (drop i xs) ≡ []
-flows-none c ds xs i h = let e : drop i ds ≡ [] = drop_of_length-le ds h in rw (e)
+pub flows-none : (c : Currency) (ds : List ℕ) (xs : List Float) (i : ℕ) → i ≡ min (length ds) (length xs) → flows_shown c (drop i ds) (drop i xs) ≡ []
+flows-none c ds xs i q = by (drop i ds) (drop i xs) (omega (arith, q, length-drop i ds, length-drop i xs))
+  where
+    by : (es : List ℕ) (ys : List Float) → min (length es) (length ys) ≡ 0 → flows_shown c es ys ≡ []
+    by [] ys h = refl
+    by (e ∷ es) [] h = refl
+    by (e ∷ es) (y ∷ ys) h = absurd (omega arith)
 
 lines_cons : (f : CashFlow) (fs : List CashFlow) → lines_of (f ∷ fs) ≡ and_then (line_shown f) (λ t. and_then (lines_of fs) (λ rest. given (t ++ rest)))
 unfolding lines_of
@@ -105,10 +114,13 @@ line_fitting f places at h = by (flow_shown f) refl
 
 -- the rest of the lines has room from a place on, and if it were written there now, all would be as
 -- it shall be
-pub record Writing (fs : List CashFlow) (old now : List ℕ) (at : ℕ) (z : List ℕ) : Type 0 where
-  pub same_length : length now ≡ length old
-  pub fits : LineFits (lines_of fs) (length now) at
-  pub rest : put now at (text_of (lines_of fs)) ≡ z
+-- w is v with some lines written, and fs are still to write; z is all of the text
+pub record Writing (fs : List CashFlow) (v w : Writer) (z : List ℕ) : Type 0 where
+  pub lent : w.out.ghost_name ≡ v.out.ghost_name
+  pub size : length w.out.now ≡ length v.out.now
+  pub fits : LineFits (lines_of fs) (length w.out.now) w.at
+  pub ends : w.at + length (text_of (lines_of fs)) ≡ v.at + length z
+  pub rest : put w.out.now w.at (text_of (lines_of fs)) ≡ put v.out.now v.at z
 
 both-given : (f : CashFlow) (fs : List CashFlow) (places at : ℕ) → LineFits (lines_of (f ∷ fs)) places at
     → (LineFits (line_shown f) places at) × (LineFits (lines_of fs) places (at + length (text_of (line_shown f)))) × (text_of (lines_of (f ∷ fs)) ≡ text_of (line_shown f) ++ text_of (lines_of fs)) × (at + length (text_of (line_shown f)) + length (text_of (lines_of fs)) ≤ places)
@@ -120,28 +132,36 @@ both-given f fs places at h = by (line_shown f) (lines_of fs) (subst (λ (x : Ou
     by (given t) (refused n) k e = absurd k
     by (refused n) p k e = absurd k
 
-pub writing_start : (fs : List CashFlow) (old : List ℕ) → LineFits (lines_of fs) (length old) 0 → Writing fs old old 0 (put old 0 (text_of (lines_of fs)))
-writing_start fs old h = record { same_length = refl; fits = h; rest = refl }
+pub writing_start : (fs : List CashFlow) (v : Writer) → LineFits (lines_of fs) (length v.out.now) v.at → Writing fs v v (text_of (lines_of fs))
+writing_start fs v h = record { lent = refl; size = refl; fits = h; ends = refl; rest = refl }
 
-module _ {f : CashFlow} {fs : List CashFlow} {old now : List ℕ} {at : ℕ} {z : List ℕ} (w : Writing (f ∷ fs) old now at z) where
-  pub writing_line : LineFits (line_shown f) (length now) at
-  writing_line = (both-given f fs (length now) at w.fits).0
+module _ {f : CashFlow} {fs : List CashFlow} {v w : Writer} {z : List ℕ} (l : Writing (f ∷ fs) v w z) where
+  pub writing_line : LineFits (line_shown f) (length w.out.now) w.at
+  writing_line = (both-given f fs (length w.out.now) w.at l.fits).0
 
-  pub writing_more : (e : List ℕ) (r : ℕ) → Wrote now e at (text_of (line_shown f)) r → Writing fs old e r z
-  writing_more e r p =
-      let b = both-given f fs (length now) at w.fits in
-      let long : length e ≡ length now = ap length p.0 ∙ length-put now at (text_of (line_shown f)) (omega (arith, b.3)) in
+  pub writing_more : (u : Writer) → Puts w u (text_of (line_shown f)) → Writing fs v u z
+  writing_more u p =
+      let b = both-given f fs (length w.out.now) w.at l.fits in
       record {
-        same_length = long ∙ w.same_length;
-        fits = rw (long, p.1) b.1;
-        rest = rw (p.0, p.1) (put-put now at (text_of (line_shown f)) (text_of (lines_of fs)) b.3) ∙ ap (put now at) (sym b.2) ∙ w.rest;
+        lent = p.lent ∙ l.lent;
+        size = p.size ∙ l.size;
+        fits = rw (p.size, p.at) b.1;
+        ends = rw p.at (omega (arith, l.ends, ap length b.2, length-append (text_of (line_shown f)) (text_of (lines_of fs))));
+        rest = rw (p.bytes, p.at) (put-put w.out.now w.at (text_of (line_shown f)) (text_of (lines_of fs)) b.3) ∙ ap (put w.out.now w.at) (sym b.2) ∙ l.rest;
       }
 
-pub writing_end : {old now : List ℕ} {at : ℕ} {z : List ℕ} → Writing [] old now at z → now ≡ z
-writing_end {old} {now} {at} {z} w = sym (put-none now at) ∙ ap (put now at) (sym (ap text_of lines_none)) ∙ w.rest
+pub writing_end : {v w : Writer} {z : List ℕ} → Writing [] v w z → Puts v w z
+writing_end {v} {w} {z} l =
+    let none : text_of (lines_of []) ≡ [] = ap text_of lines_none in
+    record {
+      lent = l.lent;
+      size = l.size;
+      at = omega (arith, l.ends, ap length none);
+      bytes = sym (put-none w.out.now w.at) ∙ ap (put w.out.now w.at) (sym none) ∙ l.rest;
+    }
 
-pub writing_flows : {fs gs : List CashFlow} {old now : List ℕ} {at : ℕ} {z : List ℕ} → fs ≡ gs → Writing fs old now at z → Writing gs old now at z
-writing_flows {fs} {gs} {old} {now} {at} {z} e w = subst (λ (x : List CashFlow). Writing x old now at z) e w
+pub writing_flows : {fs gs : List CashFlow} {v w : Writer} {z : List ℕ} → fs ≡ gs → Writing fs v w z → Writing gs v w z
+writing_flows {fs} {gs} {v} {w} {z} e l = subst (λ (x : List CashFlow). Writing x v w z) e l
 
 -- ---- the ways to answer
 
@@ -164,7 +184,7 @@ refusal_is (given t) n e = absurd (given_not_refused (sym e))
 refusal_is (refused m) n e = ap refused_text (refused_injective e)
 
 -- the same text by another name
-pub written_is : (d e s t : List ℕ) (o : Outcome ℕ) → s ≡ t → (Written d e s o) × (length s ≤ 662000) → (Written d e t o) × (length t ≤ 662000)
+written_is : (d e s t : List ℕ) (o : Outcome ℕ) → s ≡ t → (Written d e s o) × (length s ≤ 662000) → (Written d e t o) × (length t ≤ 662000)
 written_is d e s t o p w = subst (λ (x : List ℕ). (Written d e x o) × (length x ≤ 662000)) p w
 
 -- and so is a refusal's, which is short

@@ -1,4 +1,6 @@
 -- From a note's flows in two lists to its lines, and from bytes to a note.
+use Rattle.outcome.specs.Refusals.{number_of}
+use Rattle.std.specs.Prelude.{Ok, Err}
 use Prim.Native.Nat.{ℕ, ◌≤◌, min}
 use mathlib.Core.Path.{◌≡◌, refl, sym, ap, subst, ◌∙◌}
 use mathlib.Core.Bool.{true}
@@ -10,6 +12,7 @@ use lib.Ieee.{Float}
 use lib.ListN.{length, take, drop, length-append, length-map}
 use lib.Seq.{take_at}
 use Rattle.outcome.specs.Lists.{Every}
+use Rattle.outcome.specs.declared.Refusal.{Refusal}
 use Rattle.outcome.specs.Outcome.{Outcome, given, refused, unless, and_then}
 use Rattle.outcome.proofs.Outcomes.{given_injective, refused_injective, given_not_refused, then_given}
 use Rattle.outcome.specs.Room.{counted, room_after}
@@ -20,8 +23,6 @@ use Rattle.calendar.specs.serial.Answers.{date_of}
 use Rattle.calendar.specs.declared.dates.Date.{Date}
 use Rattle.calendar.proofs.dates.Dates.{date-yes, date_found, number-from, number-to, day_is}
 use Rattle.cash_flow.specs.declared.flow.CashFlow.{CashFlow}
-use Rattle.cash_flow.specs.declared.flow.FlowsAnswer.{FlowsAnswer}
-use Rattle.cash_flow.specs.declared.flow.FlowsAnswer.TheVariants as flows-answer
 use Rattle.bond.specs.declared.note.Note.{Note}
 use Rattle.note_flows.specs.flows.NoteFlows.{flow_day, amount_of}
 use Rattle.rollout.specs.plain.Rollout.{cash_flows, fitted, fitted_in, RolloutPromise}
@@ -31,15 +32,11 @@ use Rattle.packed_read.specs.table.Tables.{table_count, table_days}
 use Rattle.packed_read.proofs.table.Tables.{length-days}
 use Rattle.packed_read.specs.packed.Notes.{Unpacked, unpacked, note_in_bytes, read_into, counted_days, days_after, ReadNotePromise}
 use Rattle.packed_read.specs.declared.packed.PackedNote.{PackedNote}
-use Rattle.packed_read.specs.declared.packed.PackedAnswer.{PackedAnswer}
-use Rattle.packed_read.specs.declared.packed.PackedAnswer.TheVariants as packed-answer
 use Rattle.packed_read.proofs.packed.Reading.{bytes-given, few_days}
-use Rattle.flow_text.specs.refusal.RefusalTexts.{refused_text}
-use Rattle.note_listing.specs.lines.Lines.{lines_of, answer_text}
+use Rattle.note_listing.specs.lines.Lines.{lines_of}
 use Rattle.note_listing.specs.lines.Inner.{flow_on, flows_shown}
-use Rattle.note_listing.specs.note.Listing.{one, note_lines, listing}
+use Rattle.note_listing.specs.note.Listing.{one, note_lines}
 use Rattle.cash_flow.specs.flow.Flows.{date_on}
-use Rattle.note_listing.specs.note.Inner.{with_days}
 
 -- ---- a flow is found again from its serial day and its amount
 
@@ -63,6 +60,9 @@ front : {A B : Type 0} (g : A → B) (l : List A) (old new : List B) (k : ℕ) �
 front g l old new k e f =
     (rw (f, ← e) (front_taken g l (drop (length l) old)), omega (arith, ap length f, length-append (map g l) (drop (length l) old), length-map l g))
 
+abbrev with_days : Note → List ℕ → Unpacked
+with_days n table = record { note = n; days = table }
+
 pub record Rolled (n : Note) (table : List ℕ) (k : ℕ) (days : List ℕ) (amounts : List Float) : Type 0 where
   pub most : k ≤ 2000
   pub days_long : k ≤ length days
@@ -84,7 +84,7 @@ module _ (n : Note) (table days days' : List ℕ) (amounts amounts' : List Float
   in_2000 : fitted n one table days amounts ≡ fitted_in n one table 2000
   in_2000 = ap (fitted_in n one table) (places (length days) (length amounts) a b)
 
-  pub rolled : (k : ℕ) → RolloutPromise n one table days amounts (flows-answer.Flows k) days' amounts' → Rolled n table k days' amounts'
+  pub rolled : (k : ℕ) → RolloutPromise n one table days amounts (Ok k) days' amounts' → Rolled n table k days' amounts'
   rolled k p = by (fitted_in n one table 2000) refl
     where
       by : (o : Outcome (List CashFlow)) → fitted_in n one table 2000 ≡ o → Rolled n table k days' amounts'
@@ -102,20 +102,12 @@ module _ (n : Note) (table days days' : List ℕ) (amounts amounts' : List Float
           }
       by (refused m) e = absurd (given_not_refused (p.answer ∙ ap counted (in_2000 ∙ e)))
 
-  pub unrolled : (k : ℕ) → RolloutPromise n one table days amounts (flows-answer.Refused k) days' amounts' → note_lines (with_days n table) ≡ refused k
+  pub unrolled : (k : Refusal) → RolloutPromise n one table days amounts (Err k) days' amounts' → note_lines (with_days n table) ≡ refused (number_of k)
   unrolled k p = by (fitted_in n one table 2000) refl
     where
-      by : (o : Outcome (List CashFlow)) → fitted_in n one table 2000 ≡ o → note_lines (with_days n table) ≡ refused k
+      by : (o : Outcome (List CashFlow)) → fitted_in n one table 2000 ≡ o → note_lines (with_days n table) ≡ refused (number_of k)
       by (given l) e = absurd (given_not_refused (sym (p.answer ∙ ap counted (in_2000 ∙ e))))
       by (refused m) e = lines_refused n table m e ∙ ap refused (refused_injective (sym (p.answer ∙ ap counted (in_2000 ∙ e))))
-
-  pub rolled_out : (x : Float) (r : FlowsAnswer) (k : ℕ) → x ≡ one → r ≡ flows-answer.Flows k → RolloutPromise n x table days amounts r days' amounts' → Rolled n table k days' amounts'
-  rolled_out x r k e f p =
-      rolled k (subst (λ (y : FlowsAnswer). RolloutPromise n one table days amounts y days' amounts') f (subst (λ (y : Float). RolloutPromise n y table days amounts r days' amounts') e p))
-
-  pub not_rolled_out : (x : Float) (r : FlowsAnswer) (k : ℕ) → x ≡ one → r ≡ flows-answer.Refused k → RolloutPromise n x table days amounts r days' amounts' → note_lines (with_days n table) ≡ refused k
-  not_rolled_out x r k e f p =
-      unrolled k (subst (λ (y : FlowsAnswer). RolloutPromise n one table days amounts y days' amounts') f (subst (λ (y : Float). RolloutPromise n y table days amounts r days' amounts') e p))
 
 -- ---- the bytes
 
@@ -138,17 +130,13 @@ into_all s = by (unpacked s) refl
 
 pub record Read (s new : List ℕ) (p : PackedNote) : Type 0 where
   pub there : p.holidays ≤ length new
-  pub text : listing s ≡ answer_text (note_lines (with_days p.note (take p.holidays new)))
-
-listing_is : (s : List ℕ) (o : Outcome Unpacked) → unpacked s ≡ o → listing s ≡ answer_text (and_then o note_lines)
-unfolding listing
-listing_is s o e = rw (e)
+  pub lines : and_then (unpacked s) note_lines ≡ note_lines (with_days p.note (take p.holidays new))
 
 module _ (s old new : List ℕ) (l : length old ≡ 4096) where
   all_of_lem : read_into (length old) s ≡ unpacked s
   all_of_lem = ap (λ (k : ℕ). read_into k s) l ∙ into_all s
 
-  pub was_read : (p : PackedNote) → ReadNotePromise s old new (packed-answer.Packed p) → Read s new p
+  pub was_read : (p : PackedNote) → ReadNotePromise s old new (Ok p) → Read s new p
   was_read p r = by (unpacked s) refl
     where
       by : (o : Outcome Unpacked) → unpacked s ≡ o → Read s new p
@@ -160,19 +148,13 @@ module _ (s old new : List ℕ) (l : length old ≡ 4096) where
           let taken : take p.holidays new ≡ u.days = ap (take p.holidays) new_is ∙ take_at u.days (drop (length u.days) old) p.holidays (sym m) in
           record {
             there = omega (arith, ap length new_is, length-append u.days (drop (length u.days) old));
-            text = listing_is s (given u) e ∙ rw (taken, q);
+            lines = ap (λ (o : Outcome Unpacked). and_then o note_lines) e ∙ rw (taken, q);
           }
       by (refused k) e = absurd (given_not_refused (r.answer ∙ ap counted_days (all_of_lem ∙ e)))
 
-  pub was_refused : (k : ℕ) → ReadNotePromise s old new (packed-answer.Refused k) → listing s ≡ refused_text k
+  pub was_refused : (k : Refusal) → ReadNotePromise s old new (Err k) → and_then (unpacked s) note_lines ≡ refused (number_of k)
   was_refused k r = by (unpacked s) refl
     where
-      by : (o : Outcome Unpacked) → unpacked s ≡ o → listing s ≡ refused_text k
+      by : (o : Outcome Unpacked) → unpacked s ≡ o → and_then o note_lines ≡ refused (number_of k)
       by (given u) e = absurd (given_not_refused (sym (r.answer ∙ ap counted_days (all_of_lem ∙ e))))
-      by (refused m) e = listing_is s (refused m) e ∙ ap refused_text (refused_injective (sym (r.answer ∙ ap counted_days (all_of_lem ∙ e))))
-
-  pub was_read_so : (r : PackedAnswer) (p : PackedNote) → r ≡ packed-answer.Packed p → ReadNotePromise s old new r → Read s new p
-  was_read_so r p e w = was_read p (subst (ReadNotePromise s old new) e w)
-
-  pub was_refused_so : (r : PackedAnswer) (k : ℕ) → r ≡ packed-answer.Refused k → ReadNotePromise s old new r → listing s ≡ refused_text k
-  was_refused_so r k e w = was_refused k (subst (ReadNotePromise s old new) e w)
+      by (refused m) e = ap refused (refused_injective (sym (r.answer ∙ ap counted_days (all_of_lem ∙ e))))

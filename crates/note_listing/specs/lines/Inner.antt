@@ -1,13 +1,9 @@
 -- What the inner functions hand each other; no promise of an entry point rests on this.
-use Rattle.std.specs.Prelude.{ℕ, ◌+◌, ◌≤◌, ◌<◌, List, [], ◌∷◌, length, Float}
+use Rattle.std.specs.Prelude.{ℕ, ◌+◌, ◌≤◌, List, [], ◌∷◌, length, Float}
 use Rattle.outcome.specs.Outcome.{Outcome, given, refused, value}
-use Rattle.number_text.specs.write.Writing.{length_outcome, Written}
-use Rattle.number_text.specs.declared.write.LengthAnswer.{LengthAnswer}
-use Rattle.number_text.specs.declared.write.LengthAnswer.TheVariants.{Length, Refused}
 use Rattle.cash_flow.specs.declared.currency.Currency.{Currency}
 use Rattle.cash_flow.specs.flow.Flows.{date_on}
 use Rattle.cash_flow.specs.declared.flow.CashFlow.{CashFlow}
-use Rattle.note_listing.specs.lines.Lines.{answer_text}
 
 -- a flow from its serial day and its amount
 abbrev pub flow_on : Currency → ℕ → Float → CashFlow
@@ -19,11 +15,6 @@ flows_shown c [] xs = []
 flows_shown c (d ∷ ds) [] = []
 flows_shown c (d ∷ ds) (x ∷ xs) = flow_on c d x ∷ flows_shown c ds xs
 
--- a length that is given is at most n
-abbrev pub AtMost : ℕ → LengthAnswer → Type 0
-AtMost n (Length k) = k ≤ n
-AtMost n (Refused k) = 0 < 1
-
 -- text that is given
 abbrev pub text_of : Outcome (List ℕ) → List ℕ
 text_of o = value [] o
@@ -32,8 +23,3 @@ text_of o = value [] o
 abbrev pub LineFits : Outcome (List ℕ) → ℕ → ℕ → Type 0
 LineFits (given t) places at = at + length t ≤ places
 LineFits (refused n) places at = ⊥
-
--- the lines, or the refusal, written at the start of lent bytes, and not longer than 2,000 lines of
--- 331 bytes
-abbrev pub LinesWritten : Outcome (List ℕ) → List ℕ → List ℕ → LengthAnswer → Type 0
-LinesWritten o d e r = (Written d e (answer_text o) (length_outcome r)) × (length (answer_text o) ≤ 662000)

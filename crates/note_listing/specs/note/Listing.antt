@@ -1,10 +1,11 @@
 -- The listing: what the program writes of the bytes that it reads.
-use Rattle.std.specs.Prelude.{ℕ, List, pos, Float}
+use Rattle.std.specs.Prelude.{ℕ, List, pos, Float, Result}
 use Rattle.std.specs.Float.{binary64}
 use Rattle.std.specs.Float.Ieee.{of_int}
 use Rattle.outcome.specs.Outcome.{Outcome, and_then}
-use Rattle.number_text.specs.write.Writing.{length_outcome, Written}
-use Rattle.number_text.specs.declared.write.LengthAnswer.{LengthAnswer}
+use Rattle.outcome.specs.Refusals.{outcome_of}
+use Rattle.outcome.specs.declared.Refusal.{Refusal}
+use Rattle.number_text.specs.write.Writing.{Written}
 use Rattle.rollout.specs.plain.Rollout.{fitted_in}
 use Rattle.note_listing.specs.lines.Lines.{lines_of, answer_text}
 use Rattle.packed_read.specs.packed.Notes.{Unpacked, unpacked}
@@ -22,5 +23,5 @@ listing s = answer_text (and_then (unpacked s) note_lines)
 
 -- what is promised of the bytes s, the old and the new bytes d and e, and the answer r: all of the
 -- listing, or 16
-abbrev pub ListPromise : List ℕ → List ℕ → List ℕ → LengthAnswer → Type 0
-ListPromise s d e r = Written d e (listing s) (length_outcome r)
+abbrev pub ListPromise : List ℕ → List ℕ → List ℕ → Result ℕ Refusal → Type 0
+ListPromise s d e r = Written d e (listing s) (outcome_of r)

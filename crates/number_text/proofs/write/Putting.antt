@@ -6,11 +6,12 @@ use mathlib.Core.List.{List, [], ◌∷◌, ◌++◌, append_assoc}
 use native.Mathlib.Nat.{zero-add, add-zero}
 use native.Mathlib.Numerals.{add-one}
 use native.Mathlib.Omega.{arith}
-use lib.ListN.{length, take, drop, set, get_or, replicate, length-append, length-take, length-drop, take-append-drop, length-replicate}
+use lib.ListN.{length, take, drop, set, length-append, length-take, length-drop, take-append-drop}
 use lib.Seq.{set_split, drop-cons, take-set-le, drop-set-lt, get_or-set_same, take_at, drop_at, drop-drop, length-take-le, lt-length-set}
-use Rattle.outcome.proofs.Lists.{take_last}
-use Rattle.number_text.specs.write.Writing.{digits, put, Wrote}
-use Rattle.number_text.proofs.length.Digits.{length_digits, replicate_more}
+use borrow.Rule.Slice.PartMut.{put_mid}
+use Rattle.number_text.specs.declared.write.Writer.{Writer}
+use Rattle.number_text.specs.write.Writing.{digits, put, HasRoom, Puts}
+use Rattle.number_text.proofs.length.Digits.{length_digits}
 
 -- ---- what `put` is
 
@@ -68,16 +69,35 @@ put-put d at xs ys h =
 pub put_then : (d e f : List ℕ) (at b : ℕ) (xs ys : List ℕ) → e ≡ put d at xs → b ≡ at + length xs → f ≡ put e b ys → at + length xs + length ys ≤ length d → f ≡ put d at (xs ++ ys)
 put_then d e f at b xs ys p q r h = r ∙ rw (p, q) (put-put d at xs ys h)
 
--- two writers, one after the other
-pub wrote_then : (d e f : List ℕ) (at b r : ℕ) (xs ys : List ℕ) → Wrote d e at xs b → Wrote e f b ys r → at + length xs + length ys ≤ length d → Wrote d f at (xs ++ ys) r
-wrote_then d e f at b r xs ys p q h = (put_then d e f at b xs ys p.0 p.1 q.0 h, omega (arith, p.1, q.1, length-append xs ys))
+-- what stands where a part of the list is replaced
+pub put_part : (d : List ℕ) (at k : ℕ) (xs ys : List ℕ) → ys ≡ xs → k ≡ length xs → put_mid at k d ys ≡ put d at xs
+unfolding put
+put_part d at k xs ys p q = rw (p, q, drop-drop (length xs) at d)
 
--- a byte stored, and nothing written
-pub wrote_one : (d : List ℕ) (at v : ℕ) → at < length d → Wrote d (set d at v) at (v ∷ []) (at + 1)
-wrote_one d at v h = (put_one d at v h, refl)
+pub puts_part : (v : Writer) (k j : ℕ) (xs ys : List ℕ) → HasRoom v xs → ys ≡ xs → k ≡ length xs → j ≡ v.at + length xs → Puts v (record v { out = record v.out { now = put_mid v.at k v.out.now ys }; at = j }) xs
+puts_part v k j xs ys h e p q =
+    let b : put_mid v.at k v.out.now ys ≡ put v.out.now v.at xs = put_part v.out.now v.at k xs ys e p in
+    record { lent = refl; size = rw (b) (length-put v.out.now v.at xs h); at = q; bytes = b }
 
-pub wrote_none : (d : List ℕ) (at : ℕ) → Wrote d d at [] at
-wrote_none d at = (sym (put-none d at), sym (add-zero at))
+-- ---- writers: one text after another, the same text by another name, and none
+
+pub puts_then : (u v w : Writer) (xs ys : List ℕ) → Puts u v xs → Puts v w ys → HasRoom u (xs ++ ys) → Puts u w (xs ++ ys)
+puts_then u v w xs ys p q h =
+    let long = length-append xs ys in
+    record { lent = q.lent ∙ p.lent; size = q.size ∙ p.size; at = omega (arith, p.at, q.at); bytes = put_then _ _ _ _ _ _ _ p.bytes p.at q.bytes (omega arith) }
+
+-- there is room for the one, and then for the other
+pub room_first : (u : Writer) (xs ys : List ℕ) → HasRoom u (xs ++ ys) → HasRoom u xs
+room_first u xs ys h = omega (arith, length-append xs ys)
+
+pub room_then : (u v : Writer) (xs ys : List ℕ) → Puts u v xs → HasRoom u (xs ++ ys) → HasRoom v ys
+room_then u v xs ys p h = omega (arith, length-append xs ys, p.at, p.size)
+
+pub puts_is : (v w : Writer) (xs ys : List ℕ) → Puts v w xs → xs ≡ ys → Puts v w ys
+puts_is v w xs ys p e = rw (← e) p
+
+pub puts_none : (v : Writer) → Puts v v []
+puts_none v = record { lent = refl; size = refl; at = omega arith; bytes = sym (put-none v.out.now v.at) }
 
 -- ---- from the end to the start: to store the last byte first and then write the others is to
 -- write them all
@@ -100,16 +120,6 @@ digits_less o at zero n z e l h = absurd (omega arith)
 digits_less o at (suc i) n z e l h =
     let k : suc i - 1 ≡ i = omega arith in
     rw (k) (last_less o at i i (48 + n % 10) (digits i (n / 10)) z e (length_digits i (n / 10)) refl (omega arith))
-
-pub run_less : (o : List ℕ) (at i b : ℕ) (z : List ℕ) → put o at (replicate i b) ≡ z → 1 ≤ i → at + i ≤ length o → put (set o (at + (i - 1)) b) at (replicate (i - 1) b) ≡ z
-run_less o at zero b z e l h = absurd (omega arith)
-run_less o at (suc i) b z e l h =
-    let k : suc i - 1 ≡ i = omega arith in
-    rw (k) (last_less o at i i b (replicate i b) z (ap (put o at) (replicate_more i b) ∙ e) (length-replicate i b) refl (omega arith))
-
-pub bytes_less : (o : List ℕ) (at i : ℕ) (s z : List ℕ) → put o at (take i s) ≡ z → 1 ≤ i → i ≤ length s → at + i ≤ length o → put (set o (at + (i - 1)) (get_or s (i - 1) 0)) at (take (i - 1) s) ≡ z
-bytes_less o at i s z e l m h =
-    last_less o at (i - 1) (i - 1) (get_or s (i - 1) 0) (take (i - 1) s) z (ap (put o at) (sym (take_last s i 0 l m)) ∙ e) (length-take-le (i - 1) s (omega arith)) refl (omega arith)
 
 -- where nothing is left to write, all is written
 pub all_put : (o : List ℕ) (at : ℕ) (xs z : List ℕ) → put o at xs ≡ z → length xs ≤ 0 → o ≡ z

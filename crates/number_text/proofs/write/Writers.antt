@@ -1,25 +1,27 @@
 -- Laws of writers at the start of lent bytes: there is room and all is written, or there is not and
 -- nothing is.
-use Prim.Native.Nat.{ℕ, ◌+◌, ◌-◌, ◌≤◌, ◌<◌, max}
+use Prim.Native.Nat.{ℕ, ◌-◌, ◌≤◌, ◌<◌, max}
 use mathlib.Core.Path.{◌≡◌, refl, sym, ap, ◌∙◌}
-use mathlib.Core.List.{List, ◌++◌}
+use mathlib.Core.List.{List}
 use mathlib.Core.Bool.{Bool}
 use native.Mathlib.Omega.{arith}
 use lib.ListN.{length, take, replicate, length-append, length-replicate}
-use lib.IntN.{ℤ, nat_abs}
 use lib.Dec.{leb}
 use borrow.Author.Tests.{le-leb, lt-leb, leb-true}
 use Rattle.outcome.specs.Outcome.{given, refused, Numbered, pick}
 use Rattle.outcome.proofs.Outcomes.{given_injective, unless-given, unless_numbered}
-use Rattle.number_text.specs.write.Writing.{digits, places, decimal_text, padded_text, sign_text, signed_text, right_aligned, put, Wrote, written_length, written_bytes, Written}
+use Rattle.number_text.specs.write.Writing.{digits, places, decimal_text, padded_text, right_aligned, put, Wrote, Puts, written_length, written_bytes, Written}
 use Rattle.number_text.proofs.length.Digits.{places-some, length_decimal, length_padded}
-use Rattle.outcome.specs.Signs.{is_negative}
-use Rattle.number_text.proofs.length.Signs.{length-signed}
-use Rattle.number_text.proofs.write.Putting.{put_text, wrote_then}
+use Rattle.number_text.specs.declared.write.Writer.{Writer}
+use Rattle.number_text.proofs.write.Putting.{put_text}
 
 pub written_fits : (d e xs : List ℕ) (r : ℕ) → Wrote d e 0 xs r → length xs ≤ length d → Written d e xs (given r)
 unfolding written_length written_bytes
 written_fits d e xs r w h = rw (le-leb (length xs) (length d) h) (ap given (omega (arith, w.1)), w.0)
+
+-- a writer that began at the first of the bytes d, and left e
+pub written_by : (d e xs : List ℕ) (v w : Writer) → v.out.now ≡ d → v.at ≡ 0 → Puts v w xs → length xs ≤ length d → e ≡ w.out.now → Written d e xs (given w.at)
+written_by d e xs v w p q s h k = written_fits d e xs w.at (k ∙ s.bytes ∙ rw (p, q) refl, s.at ∙ rw (q) refl) h
 
 pub written_refused : (d xs : List ℕ) → length d < length xs → Written d d xs (refused 16)
 unfolding written_length written_bytes
@@ -59,29 +61,8 @@ pub padded_one : (n : ℕ) → padded_text 1 n ≡ decimal_text n
 unfolding decimal_text padded_text
 padded_one n = let e : max 1 (places n) ≡ places n = omega (arith, places-some n) in rw (e)
 
--- ---- a sign and a decimal: g says whether the number is negative, m is its magnitude
-
-pub sign_room : (z : ℤ) (g : Bool) (at room : ℕ) → g ≡ is_negative z → at + length (signed_text z) ≤ room → at + length (sign_text g) ≤ room
-sign_room z g at room p h = rw (p) (omega (arith, length-signed z))
-
-pub decimal_room : (z : ℤ) (g : Bool) (at b m room : ℕ) → g ≡ is_negative z → m ≡ nat_abs z → b ≡ at + length (sign_text g) → at + length (signed_text z) ≤ room → b + length (decimal_text m) ≤ room
-decimal_room z g at b m room p q r h = rw (r, p, q) (omega (arith, length-signed z))
-
-signed_text_lem : (z : ℤ) → sign_text (is_negative z) ++ decimal_text (nat_abs z) ≡ signed_text z
-unfolding signed_text
-signed_text_lem z = refl
-
-pub signed_wrote : (d e f : List ℕ) (at b r : ℕ) (z : ℤ) (g : Bool) (m : ℕ) → g ≡ is_negative z → m ≡ nat_abs z → Wrote d e at (sign_text g) b → Wrote e f b (decimal_text m) r → at + length (signed_text z) ≤ length d → Wrote d f at (signed_text z) r
-signed_wrote d e f at b r z g m p q v w h =
-    wrote_is d f at r _ _ (wrote_then d e f at b r (sign_text (is_negative z)) (decimal_text (nat_abs z)) (rw (p) at v) (rw (q) at w) (omega (arith, length-signed z))) (signed_text_lem z)
-
 -- ---- blanks and then the text
 
 pub length_aligned : (width : ℕ) (xs : List ℕ) → length (right_aligned width xs) ≡ max width (length xs)
 unfolding right_aligned
 length_aligned width xs = omega (arith, length-append (replicate (width - length xs) 32) xs, length-replicate {A = ℕ} (width - length xs) 32)
-
-pub aligned_wrote : (d e f : List ℕ) (at b r width : ℕ) (xs : List ℕ) → Wrote d e at (replicate (width - length xs) 32) b → Wrote e f b xs r → at + length (right_aligned width xs) ≤ length d → Wrote d f at (right_aligned width xs) r
-unfolding right_aligned
-aligned_wrote d e f at b r width xs v w h =
-    wrote_then d e f at b r (replicate (width - length xs) 32) xs v w (omega (arith, length-append (replicate (width - length xs) 32) xs))

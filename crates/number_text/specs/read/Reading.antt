@@ -1,13 +1,11 @@
 -- Numbers as text: which bytes are a number, and which number they are. A refusal's number n is the
 -- caller's: 4 in a
 -- period, 6 in a coupon date.
-use Rattle.std.specs.Prelude.{ℕ, ◌+◌, ◌-◌, ◌*◌, ◌≡◌, Bool, false, List, [], ◌∷◌, leb, eqb, drop, ℤ, pos, neg_ℤ}
+use Rattle.std.specs.Prelude.{ℕ, ◌+◌, ◌-◌, ◌*◌, ◌≡◌, Bool, false, List, [], ◌∷◌, leb, eqb, drop, ℤ, pos, neg_ℤ, Result}
 use Rattle.outcome.specs.Lists.{all_of}
-use Rattle.outcome.specs.Outcome.{Outcome, given, refused, unless, and_then, pick, both}
-use Rattle.number_text.specs.declared.read.NumberAnswer.{NumberAnswer}
-use Rattle.number_text.specs.declared.read.NumberAnswer.TheVariants as number
-use Rattle.number_text.specs.declared.read.SignedAnswer.{SignedAnswer}
-use Rattle.number_text.specs.declared.read.SignedAnswer.TheVariants as signed
+use Rattle.outcome.specs.Outcome.{Outcome, given, unless, and_then, pick, both}
+use Rattle.outcome.specs.Refusals.{outcome_of}
+use Rattle.outcome.specs.declared.Refusal.{Refusal}
 
 -- a digit is one of the bytes '0' to '9'
 unfoldable pub is_digit : ℕ → Bool
@@ -63,24 +61,14 @@ from_zero n s = and_then (decimal_number 2147483647 n s) (λ v. given (pos v))
 unfoldable pub signed_number : ℕ → List ℕ → Outcome ℤ
 signed_number n s = pick (begins 45 s) (below_zero n (drop 1 s)) (from_zero n (after_plus s))
 
--- what the answers in code say: a number or a refusal
-abbrev pub number_outcome : NumberAnswer → Outcome ℕ
-number_outcome (number.Number v) = given v
-number_outcome (number.Refused n) = refused n
-
--- the same of a signed number
-abbrev pub signed_outcome : SignedAnswer → Outcome ℤ
-signed_outcome (signed.Number z) = given z
-signed_outcome (signed.Refused n) = refused n
-
 -- what the readers promise of the bytes s and their answer r: a decimal
-abbrev pub ReadsDecimal : ℕ → ℕ → List ℕ → NumberAnswer → Type 0
-ReadsDecimal most n s r = number_outcome r ≡ decimal_number most n s
+abbrev pub ReadsDecimal : ℕ → ℕ → List ℕ → Result ℕ Refusal → Type 0
+ReadsDecimal most n s r = outcome_of r ≡ decimal_number most n s
 
 -- an unsigned number
-abbrev pub ReadsUnsigned : ℕ → List ℕ → NumberAnswer → Type 0
-ReadsUnsigned n s r = number_outcome r ≡ unsigned_number n s
+abbrev pub ReadsUnsigned : ℕ → List ℕ → Result ℕ Refusal → Type 0
+ReadsUnsigned n s r = outcome_of r ≡ unsigned_number n s
 
 -- a signed number
-abbrev pub ReadsSigned : ℕ → List ℕ → SignedAnswer → Type 0
-ReadsSigned n s r = signed_outcome r ≡ signed_number n s
+abbrev pub ReadsSigned : ℕ → List ℕ → Result ℤ Refusal → Type 0
+ReadsSigned n s r = outcome_of r ≡ signed_number n s

@@ -1,6 +1,6 @@
 -- The cases of a note's reading, each as the code meets it.
 use Prim.Native.Nat.{ℕ, ◌^◌, ◌≤◌, ◌<◌}
-use mathlib.Core.Path.{◌≡◌, sym, ◌∙◌}
+use mathlib.Core.Path.{◌≡◌}
 use mathlib.Core.Bool.{Bool, true, false}
 use mathlib.Core.List.{List}
 use borrow.Author.Tests.{eq-eqb, ne_eqb}
@@ -26,17 +26,14 @@ module _ (table : Bool) (ns : List ℕ) where
   unfolding note_checks
   no_rate u c a g h l = rw (number-accepted ns g, high_bits (number_in ns Name.rate) h l)
 
-  pub bad_number : number_good (number_in ns Name.digit_count) (number_in ns Name.digits) ≡ false → refused 18 ≡ note_from table ns
+  -- what a test of the number said, and the spare bits
+  pub bad_number : (good : Bool) → good ≡ number_good (number_in ns Name.digit_count) (number_in ns Name.digits) → good ≡ false → refused 18 ≡ note_from table ns
   unfolding note_from
-  bad_number f = rw (f)
+  bad_number good e f = rw (← e, f)
 
-  pub spare-bits : number_good (number_in ns Name.digit_count) (number_in ns Name.digits) ≡ true → (number_in ns Name.spare ≡ 0 → ⊥) → refused 18 ≡ note_from table ns
-  unfolding note_from
-  spare-bits f g = rw (f, ne_eqb (number_in ns Name.spare) 0 g)
-
-  -- the same of what a test of the number said
   pub spare_set : (good : Bool) → good ≡ number_good (number_in ns Name.digit_count) (number_in ns Name.digits) → good ≡ true → (number_in ns Name.spare ≡ 0 → ⊥) → refused 18 ≡ note_from table ns
-  spare_set good e f g = spare-bits (sym e ∙ f) g
+  unfolding note_from
+  spare_set good e f g = rw (← e, f, ne_eqb (number_in ns Name.spare) 0 g)
 
   -- what the codes decide
   abbrev pub by_codes : Outcome Note

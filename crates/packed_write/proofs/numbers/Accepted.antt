@@ -8,7 +8,7 @@ use borrow.Author.Tests.{leb-true, ltb-true}
 use lib.Dec.{T, leb, ltb}
 use lib.IntN.{ℤ, pos, nat_abs}
 use lib.Signed.{le_z, lt_z}
-use lib.Ieee.{Float, nan, inf, fin, binary64, fits, is_nan, to_bits}
+use lib.Ieee.{Float, nan, inf, fin, binary64, fits, is_nan}
 use lib.Ieee.Bits.{to_bits-lt}
 use Rattle.outcome.specs.Outcome.{given, both}
 use Rattle.outcome.proofs.Numbers.{between}
@@ -108,9 +108,9 @@ digits_known n e =
 -- ---- all of them
 
 -- each from its part
-pub numbers_are : (n : Note) (d u m c a x y z : ℕ) → d ≡ number_of n Name.digits → u ≡ number_of n Name.unit → m ≡ number_of n Name.number → c ≡ number_of n Name.day_count → a ≡ number_of n Name.adjustment → x ≡ number_of n Name.first_letter → y ≡ number_of n Name.second_letter → z ≡ number_of n Name.third_letter
-    → n.number.count ∷ d ∷ n.issue_date.year ∷ n.issue_date.month ∷ n.issue_date.day ∷ n.maturity.year ∷ n.maturity.month ∷ n.maturity.day ∷ n.coupon_date.day ∷ n.coupon_date.month ∷ u ∷ m ∷ c ∷ a ∷ n.denomination ∷ to_bits binary64 n.rate ∷ x ∷ y ∷ z ∷ 0 ∷ [] ≡ numbers_of n
-numbers_are n d u m c a x y z e f g h i j k l = rw (e, f, g, h, i, j, k, l)
+pub numbers_are : (n : Note) {n0 n1 n2 n3 n4 n5 n6 n7 n8 n9 n10 n11 n12 n13 n14 n15 n16 n17 n18 : ℕ} → n0 ≡ number_of n Name.digit_count → n1 ≡ number_of n Name.digits → n2 ≡ number_of n Name.issue_year → n3 ≡ number_of n Name.issue_month → n4 ≡ number_of n Name.issue_day → n5 ≡ number_of n Name.maturity_year → n6 ≡ number_of n Name.maturity_month → n7 ≡ number_of n Name.maturity_day → n8 ≡ number_of n Name.coupon_day → n9 ≡ number_of n Name.coupon_month → n10 ≡ number_of n Name.unit → n11 ≡ number_of n Name.number → n12 ≡ number_of n Name.day_count → n13 ≡ number_of n Name.adjustment → n14 ≡ number_of n Name.denomination → n15 ≡ number_of n Name.rate → n16 ≡ number_of n Name.first_letter → n17 ≡ number_of n Name.second_letter → n18 ≡ number_of n Name.third_letter
+    → n0 ∷ n1 ∷ n2 ∷ n3 ∷ n4 ∷ n5 ∷ n6 ∷ n7 ∷ n8 ∷ n9 ∷ n10 ∷ n11 ∷ n12 ∷ n13 ∷ n14 ∷ n15 ∷ n16 ∷ n17 ∷ n18 ∷ 0 ∷ [] ≡ numbers_of n
+numbers_are n e0 e1 e2 e3 e4 e5 e6 e7 e8 e9 e10 e11 e12 e13 e14 e15 e16 e17 e18 = rw (e0, e1, e2, e3, e4, e5, e6, e7, e8, e9, e10, e11, e12, e13, e14, e15, e16, e17, e18)
 
 pub accepted : (n : Note) → Packable n → Accepted n
 accepted n h = (passed true true n n h.1).note

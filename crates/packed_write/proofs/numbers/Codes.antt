@@ -11,14 +11,6 @@ use Rattle.outcome.specs.Outcome.{pick}
 use Rattle.outcome.proofs.Numbers.{digits_apart}
 use Rattle.packed_write.specs.numbers.Codes.{digits_places}
 
--- ---- powers of ten
-
-pub ten_more : (k p : ℕ) → p ≡ 10 ^ k → p * 10 ≡ 10 ^ (k + 1)
-ten_more k p e = rw (add-one k, e) (sym (pow-suc 10 k))
-
-pub ten_small : (k p : ℕ) → p ≡ 10 ^ k → k ≤ 10 → p ≤ 10000000000
-ten_small k p e h = let l : 10 ^ k ≤ 10 ^ 10 = pow-le-pow_right (omega arith) h in omega arith
-
 -- ---- places one after the other
 
 places-suc : (c k d : ℕ) → digits_places c (suc k) d ≡ pick (ltb k c) (digits_places c k (d / 10) * 16 + d % 10) (digits_places c k d * 16 + 15)

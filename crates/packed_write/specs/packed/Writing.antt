@@ -1,9 +1,9 @@
 -- A packed note and its table as bytes, and what is refused.
-use Rattle.std.specs.Prelude.{ℕ, true, List, pos}
+use Rattle.std.specs.Prelude.{ℕ, true, List, pos, Result}
+use Rattle.outcome.specs.declared.Refusal.{Refusal}
 use Rattle.std.specs.Int.Signed.{le_z}
 use Rattle.outcome.specs.Outcome.{Outcome, given, unless, and_then}
 use Rattle.number_text.specs.write.Writing.{Writes}
-use Rattle.number_text.specs.declared.write.LengthAnswer.{LengthAnswer}
 use Rattle.business_days.specs.table.Table.{is_table}
 use Rattle.bond.specs.note.Notes.{note_checks}
 use Rattle.bond.specs.declared.note.Note.{Note}
@@ -17,5 +17,5 @@ packed_note n table =
     (and_then (note_checks true (is_table table) n) (λ m. given (record_bytes m table)))
 
 -- what the entry point promises of the old and the new bytes and its answer r
-abbrev pub WritePromise : Note → List ℕ → List ℕ → List ℕ → LengthAnswer → Type 0
+abbrev pub WritePromise : Note → List ℕ → List ℕ → List ℕ → Result ℕ Refusal → Type 0
 WritePromise n table old new r = Writes (packed_note n table) old new r

@@ -1,13 +1,14 @@
 -- Under a rule that counts days a flow is valued by its serial day: no date is taken.
 use Prim.Native.Nat.{ℕ, ◌-◌, ◌≤◌}
 use mathlib.Core.Path.{◌≡◌, refl, sym, ap, ◌∙◌}
-use mathlib.Core.Bool.{Bool, true, false}
+use mathlib.Core.Bool.{Bool, true, false, ◌&&◌, false≢true}
 use native.Mathlib.Omega.{arith}
-use lib.Dec.{leb}
+use lib.Dec.{leb, eqb}
 use lib.IntN.{ℤ, pos}
-use lib.Ieee.{Float, binary64, add, mul}
+use lib.Ieee.{Float, binary64, mul}
 use lib.Ieee.Scale.{finite}
-use borrow.Author.Tests.{leb-true, eqb-true}
+use borrow.Author.Tests.{leb-true, eq-eqb, eqb-true}
+use Rattle.std.specs.Prelude.{Some, None}
 use Rattle.outcome.specs.Outcome.{given, value, both, pick}
 use Rattle.outcome.proofs.Outcomes.{both_true}
 use Rattle.calendar.specs.dates.Dates.{is_date, day_number, the_date}
@@ -25,24 +26,14 @@ use Rattle.day_count_conv.specs.declared.conventions.DayCountConv.{DayCountConv}
 use Rattle.day_count_conv.specs.declared.conventions.DayCountConv.TheVariants as conv
 use Rattle.day_count_conv.proofs.conventions.Judged.{span_fraction}
 use Rattle.rates.specs.factors.Factors.{factor_of}
-use Rattle.rates.specs.simple.Rates.{fraction_to, is_one_currency, flow_value, flow_added}
+use Rattle.rates.specs.simple.Rates.{fraction_to, is_one_currency, flow_value}
 use Rattle.rates.specs.declared.simple.FlatRate.{FlatRate}
 use Rattle.rates.specs.plain.Counted.{year_days, counted_from}
 
-same-currency : (a b : Currency) → is_same_currency a b ≡ true → a ≡ b
+-- a currency is the same as itself
+itself : (a : Currency) → is_same_currency a a ≡ true
 unfolding is_same_currency
-same-currency a b e =
-    let h = both_true _ _ e in
-    let k = both_true _ _ h.1 in
-    let x : a.first ≡ b.first = eqb-true _ _ h.0 in
-    let y : a.second ≡ b.second = eqb-true _ _ k.0 in
-    let z : a.third ≡ b.third = eqb-true _ _ k.1 in
-    λ i. record { first = x i; second = y i; third = z i }
-
--- a currency that is the rate's is one
-one-currency : (a b : Currency) → is_currency a ≡ true → is_same_currency a b ≡ true → is_one_currency a b ≡ true
-unfolding is_one_currency
-one-currency a b c s = rw (c, sym (ap is_currency (same-currency a b s)) ∙ c, s)
+itself a = rw (eq-eqb a.first a.first refl, eq-eqb a.second a.second refl, eq-eqb a.third a.third refl)
 
 date-on : (n : ℕ) → 1 ≤ n → n ≤ 3652059 → date_on n ≡ the_date n
 unfolding date_on
@@ -57,38 +48,52 @@ days-over conv.D30_360 s e h p = absurd (omega arith)
 days-over conv.D30E360 s e h p = absurd (omega arith)
 days-over conv.ActActICMA s e h p = absurd (omega arith)
 
--- a day of the calendar is given only where days are enough, and it is today's
-counted_is : (rate : FlatRate) (today : Date) (from : ℕ) → from ≡ counted_from rate today → from ≤ 3652059 → (1 ≤ year_days rate.day_count_conv) × (is_currency rate.currency ≡ true) × (is_date today ≡ true) × (day_number today ≡ from)
+and_true : (a b : Bool) → (a && b) ≡ true → (a ≡ true) × (b ≡ true)
+and_true true b e = (refl, e)
+and_true false b e = absurd (false≢true e)
+
+same_day : {m n : ℕ} → Some m ≡ Some n → n ≡ m
+same_day e = cc
+
+no_day : {m : ℕ} → Some m ≡ None → ⊥
+no_day e = cc
+
+-- two currencies whose letters are equal are one
+pub equal_currency : (a b : Currency) → (eqb a.first b.first && (eqb a.second b.second && eqb a.third b.third)) ≡ true → a ≡ b
+equal_currency a b e =
+    let h = and_true _ _ e in
+    let k = and_true _ _ h.1 in
+    let x : a.first ≡ b.first = eqb-true _ _ h.0 in
+    let y : a.second ≡ b.second = eqb-true _ _ k.0 in
+    let z : a.third ≡ b.third = eqb-true _ _ k.1 in
+    λ i. record { first = x i; second = y i; third = z i }
+
+-- a day is given only where days are enough, and it is today's
+counted_is : (rate : FlatRate) (today : Date) (from : ℕ) → Some from ≡ counted_from rate today → (1 ≤ year_days rate.day_count_conv) × (is_currency rate.currency ≡ true) × (is_date today ≡ true) × (day_number today ≡ from)
 unfolding counted_from
-counted_is rate today from e h = go _ refl e
+counted_is rate today from e = go _ refl e
   where
-    go : (b : Bool) → both (leb 1 (year_days rate.day_count_conv)) (both (is_currency rate.currency) (is_date today)) ≡ b → from ≡ pick b (day_number today) 3652060 → (1 ≤ year_days rate.day_count_conv) × (is_currency rate.currency ≡ true) × (is_date today ≡ true) × (day_number today ≡ from)
+    go : (b : Bool) → both (leb 1 (year_days rate.day_count_conv)) (both (is_currency rate.currency) (is_date today)) ≡ b → Some from ≡ pick b (Some (day_number today)) None → (1 ≤ year_days rate.day_count_conv) × (is_currency rate.currency ≡ true) × (is_date today ≡ true) × (day_number today ≡ from)
     go true p q =
         let x = both_true _ _ p in
         let y = both_true _ _ x.1 in
-        (leb-true _ _ x.0, y.0, y.1, sym q)
-    go false p q = absurd (omega arith)
+        (leb-true _ _ x.0, y.0, y.1, same_day q)
+    go false p q = absurd (no_day q)
 
-module _ (rate : FlatRate) (today : Date) (from day : ℕ) (c : from ≡ counted_from rate today) (h : from ≤ day) (k : day ≤ 3652059) where
+module _ (rate : FlatRate) (today : Date) (from day : ℕ) (c : Some from ≡ counted_from rate today) (h : from ≤ day) (k : day ≤ 3652059) where
   fraction_counted : fraction_to rate.day_count_conv today (date_on day) ≡ given (quotient (pos (day - from)) (year_days rate.day_count_conv))
   fraction_counted =
-      let j = counted_is rate today from c (omega arith) in
+      let j = counted_is rate today from c in
       let l : 1 ≤ day = omega (arith, number-from today (date-yes today j.2), j.3) in
       let n = number_found day l k in
       let s : Span today (the_date day) = record { first = j.2; last = date_is (the_date day) (the_date_is day l k); order = omega (arith, n, j.3) } in
       let d : days today (the_date day) ≡ pos (day - from) = diff_pos (diff_of (day_number (the_date day)) (day_number today)) s.order ∙ ap pos (omega (arith, n, j.3)) in
       rw (date-on day l k) (days-over rate.day_count_conv today (the_date day) j.0 s ∙ ap (λ (z : ℤ). given (quotient z (year_days rate.day_count_conv))) d)
 
--- where a flow passes the tests of days, currency and amount nothing is refused, and this is added
-pub flow-counted : (rate : FlatRate) (today : Date) (sum : Float) (from day : ℕ) (currency : Currency) (amount : Float)
-    → from ≡ counted_from rate today
-    → both (leb from day) (both (leb day 3652059) (both (is_same_currency rate.currency currency) (finite amount))) ≡ true
-    → flow_added rate today sum (record { date = date_on day; currency = currency; amount = amount }) ≡ given (add binary64 sum (mul binary64 (factor_of rate.rate (quotient (pos (day - from)) (year_days rate.day_count_conv))) amount))
-unfolding flow_added flow_value
-flow-counted rate today sum from day currency amount c e =
-    let a = both_true _ _ e in
-    let b = both_true _ _ a.1 in
-    let d = both_true _ _ b.1 in
-    let h : from ≤ day = leb-true _ _ a.0 in
-    let k : day ≤ 3652059 = leb-true _ _ b.0 in
-    rw (d.1, one-currency rate.currency currency (counted_is rate today from c (omega arith)).1 d.0, fraction_counted rate today from day c h k)
+  -- there, a flow of a finite amount in the rate's currency is not refused, and this is its value
+  pub flow-counted : (currency : Currency) (amount : Float) → currency ≡ rate.currency → finite amount ≡ true
+      → flow_value rate today (record { date = date_on day; currency = currency; amount = amount }) ≡ given (mul binary64 (factor_of rate.rate (quotient (pos (day - from)) (year_days rate.day_count_conv))) amount)
+  unfolding flow_value is_one_currency
+  flow-counted currency amount e f =
+      let own : is_currency rate.currency ≡ true = (counted_is rate today from c).1 in
+      rw (e, f, own, itself rate.currency, fraction_counted)

@@ -1,43 +1,40 @@
 -- No second answer satisfies an entry point's promise; and a refusal's number is never 0.
-use mathlib.Core.Path.{◌≡◌, refl, sym, ◌∙◌}
+use Rattle.std.specs.Prelude.{Result}
+use mathlib.Core.Path.{◌≡◌, sym, ◌∙◌}
 use mathlib.Core.List.{List, [], ◌∷◌}
 use native.Mathlib.Omega.{arith}
 use lib.IntN.{pos}
 use lib.Ieee.{Float, binary64, add, mul}
 use lib.Ieee.Scale.{finite}
 use Rattle.outcome.specs.Outcome.{given, plus_zero, Numbered}
-use Rattle.outcome.proofs.Outcomes.{unless_numbered, then_numbered, answer_of, one_answer, Returns, returns}
+use Rattle.outcome.specs.Refusals.{outcome_of}
+use Rattle.outcome.specs.declared.Refusal.{Refusal}
+use Rattle.outcome.proofs.Outcomes.{unless_numbered, then_numbered, Returns, returns}
+use Rattle.outcome.proofs.Refusals.{same_result}
 use Rattle.calendar.specs.declared.dates.Date.{Date}
-use Rattle.cash_flow.specs.declared.currency.AmountAnswer.{AmountAnswer}
-use Rattle.cash_flow.proofs.currency.OneOutcome.{same_amount_answer}
 use Rattle.cash_flow.specs.declared.flow.CashFlow.{CashFlow}
 use Rattle.day_fraction.specs.Fractions.{whole}
 use Rattle.day_count_conv.specs.conventions.Conventions.{fractions_in_f64, no_terms}
 use Rattle.day_count_conv.specs.declared.conventions.DayCountConv.{DayCountConv}
 use Rattle.day_count_conv.proofs.conventions.OneOutcome.{fraction_numbered}
 use Rattle.rates.specs.factors.Factors.{is_discount_rate, factor_of}
-use Rattle.rates.specs.simple.Rates.{factor_outcome, factor_returned, fraction_to, discount_factor, is_one_currency, flow_value, discounted_flow, flow_added, stream_from, discounted_stream, FactorPromise, FlowPromise, StreamPromise}
+use Rattle.rates.specs.simple.Rates.{factor_returned, fraction_to, discount_factor, is_one_currency, flow_value, discounted_flow, flow_added, stream_from, discounted_stream, FactorPromise, FlowPromise, StreamPromise}
 use Rattle.rates.specs.declared.simple.FlatRate.{FlatRate}
-use Rattle.rates.specs.declared.simple.FactorAnswer.{FactorAnswer}
-use Rattle.rates.specs.declared.simple.FactorAnswer.TheVariants as factor-answer
-
-pub same_factor_answer : (r s : FactorAnswer) → factor_outcome r ≡ factor_outcome s → r ≡ s
-same_factor_answer r s e = one_answer factor_outcome factor-answer.Factor factor-answer.Refused (λ x. elim x as (λ y. answer_of factor-answer.Factor factor-answer.Refused (factor_outcome y) ≡ y) [ factor-answer.Factor v ↦ refl | factor-answer.Refused n ↦ refl ]) r s e
 
 -- a refusal returns its number and the zero
-pub factor_returned_lem : Returns factor_outcome plus_zero factor_returned
-factor_returned_lem = returns factor_outcome plus_zero
+pub factor_returned_lem : Returns outcome_of plus_zero factor_returned
+factor_returned_lem = returns outcome_of plus_zero
 
 -- one answer to each question
 module _ (rate : FlatRate) (today : Date) where
-  pub one_factor : (t : Date) (r s : FactorAnswer) → FactorPromise rate today t r → FactorPromise rate today t s → r ≡ s
-  one_factor t r s p q = same_factor_answer r s (p ∙ sym q)
+  pub one_factor : (t : Date) (r s : Result Float Refusal) → FactorPromise rate today t r → FactorPromise rate today t s → r ≡ s
+  one_factor t r s p q = same_result r s (p ∙ sym q)
 
-  pub one-flow : (f : CashFlow) (r s : AmountAnswer) → FlowPromise rate today f r → FlowPromise rate today f s → r ≡ s
-  one-flow f r s p q = same_amount_answer r s (p ∙ sym q)
+  pub one-flow : (f : CashFlow) (r s : Result Float Refusal) → FlowPromise rate today f r → FlowPromise rate today f s → r ≡ s
+  one-flow f r s p q = same_result r s (p ∙ sym q)
 
-  pub one_stream : (fs : List CashFlow) (r s : AmountAnswer) → StreamPromise rate today fs r → StreamPromise rate today fs s → r ≡ s
-  one_stream fs r s p q = same_amount_answer r s (p ∙ sym q)
+  pub one_stream : (fs : List CashFlow) (r s : Result Float Refusal) → StreamPromise rate today fs r → StreamPromise rate today fs s → r ≡ s
+  one_stream fs r s p q = same_result r s (p ∙ sym q)
 
 -- every refusal has its number
 to_numbered : (rule : DayCountConv) (today t : Date) → Numbered (fraction_to rule today t)

@@ -1,6 +1,6 @@
 -- What the inner functions of a listed stream hand each other, so that no date is taken where days
 -- are enough; no promise of an entry point rests on this.
-use Rattle.std.specs.Prelude.{ℕ, leb}
+use Rattle.std.specs.Prelude.{ℕ, leb, Option, Some, None}
 use Rattle.outcome.specs.Outcome.{both, pick}
 use Rattle.calendar.specs.dates.Dates.{is_date, day_number}
 use Rattle.calendar.specs.declared.dates.Date.{Date}
@@ -19,7 +19,7 @@ year_days conv.D30E360 = 0
 year_days conv.ActActICMA = 0
 
 -- the day from which on days are enough: today's, where the rule counts days and the rate's
--- currency and today are in order; else the day after the calendar's last
-unfoldable pub counted_from : FlatRate → Date → ℕ
+-- currency and today are in order; else none
+unfoldable pub counted_from : FlatRate → Date → Option ℕ
 counted_from rate today =
-    pick (both (leb 1 (year_days rate.day_count_conv)) (both (is_currency rate.currency) (is_date today))) (day_number today) 3652060
+    pick (both (leb 1 (year_days rate.day_count_conv)) (both (is_currency rate.currency) (is_date today))) (Some (day_number today)) None

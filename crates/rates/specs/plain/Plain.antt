@@ -1,10 +1,10 @@
 -- A stream of flows as three lists: serial days, currencies as numbers, and amounts.
-use Rattle.std.specs.Prelude.{ℕ, ◌/◌, ◌%◌, List, ltb, length, get_or, Float}
+use Rattle.std.specs.Prelude.{ℕ, ◌/◌, ◌%◌, List, ltb, length, get_or, Float, Result}
+use Rattle.outcome.specs.declared.Refusal.{Refusal}
 use Rattle.std.specs.Float.{nan}
 use Rattle.outcome.specs.Lists.{values_from}
 use Rattle.outcome.specs.Outcome.{pick}
 use Rattle.calendar.specs.declared.dates.Date.{Date}
-use Rattle.cash_flow.specs.declared.currency.AmountAnswer.{AmountAnswer}
 use Rattle.cash_flow.specs.declared.currency.Currency.{Currency}
 use Rattle.cash_flow.specs.flow.Flows.{date_on}
 use Rattle.cash_flow.specs.declared.flow.CashFlow.{CashFlow}
@@ -34,5 +34,5 @@ unfoldable pub flows_of : List ℕ → List ℕ → List Float → List CashFlow
 flows_of days currencies amounts = flows_from days currencies amounts 0 (length amounts)
 
 -- what the entry point promises of its result r
-abbrev pub DiscountPlainPromise : FlatRate → Date → List ℕ → List ℕ → List Float → AmountAnswer → Type 0
+abbrev pub DiscountPlainPromise : FlatRate → Date → List ℕ → List ℕ → List Float → Result Float Refusal → Type 0
 DiscountPlainPromise rate today days currencies amounts r = StreamPromise rate today (flows_of days currencies amounts) r

@@ -1,12 +1,13 @@
 -- `Simple` discounting at a flat rate: the factor, one flow, and a stream of flows.
-use Rattle.std.specs.Prelude.{ℕ, ◌≡◌, Bool, List, [], ◌∷◌, pos, Float}
+use Rattle.std.specs.Prelude.{ℕ, ◌≡◌, Bool, List, [], ◌∷◌, pos, Float, Result}
 use Rattle.std.specs.Float.{binary64}
 use Rattle.std.specs.Float.Ieee.{add, mul}
 use Rattle.std.specs.Float.Ieee.Scale.{finite}
-use Rattle.outcome.specs.Outcome.{Outcome, given, refused, returned, plus_zero, unless, and_then, both}
+use Rattle.outcome.specs.Outcome.{Outcome, given, returned, plus_zero, unless, and_then, both}
+use Rattle.outcome.specs.Refusals.{outcome_of}
+use Rattle.outcome.specs.declared.Refusal.{Refusal}
 use Rattle.calendar.specs.declared.dates.Date.{Date}
-use Rattle.cash_flow.specs.currency.Amounts.{is_currency, is_same_currency, amount_outcome}
-use Rattle.cash_flow.specs.declared.currency.AmountAnswer.{AmountAnswer}
+use Rattle.cash_flow.specs.currency.Amounts.{is_currency, is_same_currency}
 use Rattle.cash_flow.specs.declared.currency.Currency.{Currency}
 use Rattle.cash_flow.specs.declared.flow.CashFlow.{CashFlow}
 use Rattle.day_fraction.specs.Fractions.{whole}
@@ -14,20 +15,13 @@ use Rattle.day_count_conv.specs.conventions.Conventions.{year_fraction, fraction
 use Rattle.day_count_conv.specs.declared.conventions.DayCountConv.{DayCountConv}
 use Rattle.rates.specs.factors.Factors.{is_discount_rate, factor_of}
 use Rattle.rates.specs.declared.simple.FlatRate.{FlatRate}
-use Rattle.rates.specs.declared.simple.FactorAnswer.{FactorAnswer}
-use Rattle.rates.specs.declared.simple.FactorAnswer.TheVariants as factor-answer
 
 abbrev zero : Float
 zero = whole (pos 0)
 
--- the outcome that an answer is: the factor, or the refusal's number
-abbrev pub factor_outcome : FactorAnswer → Outcome Float
-factor_outcome (factor-answer.Factor x) = given x
-factor_outcome (factor-answer.Refused n) = refused n
-
 -- what is returned of it; the zero is +0.0
-abbrev pub factor_returned : FactorAnswer → ℕ × Float
-factor_returned r = returned plus_zero (factor_outcome r)
+abbrev pub factor_returned : Result Float Refusal → ℕ × Float
+factor_returned r = returned plus_zero (outcome_of r)
 
 -- the fraction from today to the payment date; no roll date and no period are given, so ICMA is
 -- refused 10
@@ -67,11 +61,11 @@ unfoldable pub discounted_stream : FlatRate → Date → List CashFlow → Outco
 discounted_stream r today fs = unless (is_discount_rate r.rate) 15 (stream_from r today zero fs)
 
 -- what the entry points promise of their result r
-abbrev pub FactorPromise : FlatRate → Date → Date → FactorAnswer → Type 0
-FactorPromise rate today t r = factor_outcome r ≡ discount_factor rate today t
+abbrev pub FactorPromise : FlatRate → Date → Date → Result Float Refusal → Type 0
+FactorPromise rate today t r = outcome_of r ≡ discount_factor rate today t
 
-abbrev pub FlowPromise : FlatRate → Date → CashFlow → AmountAnswer → Type 0
-FlowPromise rate today f r = amount_outcome r ≡ discounted_flow rate today f
+abbrev pub FlowPromise : FlatRate → Date → CashFlow → Result Float Refusal → Type 0
+FlowPromise rate today f r = outcome_of r ≡ discounted_flow rate today f
 
-abbrev pub StreamPromise : FlatRate → Date → List CashFlow → AmountAnswer → Type 0
-StreamPromise rate today fs r = amount_outcome r ≡ discounted_stream rate today fs
+abbrev pub StreamPromise : FlatRate → Date → List CashFlow → Result Float Refusal → Type 0
+StreamPromise rate today fs r = outcome_of r ≡ discounted_stream rate today fs

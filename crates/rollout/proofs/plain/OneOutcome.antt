@@ -1,12 +1,15 @@
 -- No second outcome satisfies the entry point's promise: neither another answer, nor other lists;
 -- and a refusal's number is never 0.
+use Rattle.std.specs.Prelude.{Result}
 use Prim.Native.Nat.{ℕ, zero, suc}
 use mathlib.Core.Path.{◌≡◌, sym, ◌∙◌}
 use mathlib.Core.List.{List, []}
 use native.Mathlib.Omega.{arith}
 use lib.Ieee.{Float}
 use Rattle.outcome.specs.Outcome.{Outcome, given, Numbered}
+use Rattle.outcome.specs.declared.Refusal.{Refusal}
 use Rattle.outcome.proofs.Outcomes.{then_numbered, elim_numbered}
+use Rattle.outcome.proofs.Refusals.{same_result}
 use Rattle.outcome.proofs.Fitting.{fitting_numbered}
 use Rattle.calendar.specs.dates.Dates.{is_before}
 use Rattle.calendar.specs.declared.dates.Date.{Date}
@@ -18,8 +21,6 @@ use Rattle.time_period.proofs.steps.OneOutcome.{step_numbered}
 use Rattle.day_count_conv.specs.conventions.Conventions.{fractions_in_f64, rolled_from, year_fraction}
 use Rattle.day_count_conv.proofs.conventions.OneOutcome.{fraction_numbered}
 use Rattle.cash_flow.specs.declared.flow.CashFlow.{CashFlow}
-use Rattle.cash_flow.specs.declared.flow.FlowsAnswer.{FlowsAnswer}
-use Rattle.cash_flow.proofs.flow.OneOutcome.{same_flows-answer}
 use Rattle.bond.specs.note.Notes.{is_position, note_checks, first_coupon_end, nominal_of, coupon_amount}
 use Rattle.bond.specs.declared.note.Note.{Note}
 use Rattle.bond.proofs.note.OneOutcome.{checks_numbered, first_end_numbered}
@@ -27,9 +28,9 @@ use Rattle.note_flows.specs.flows.NoteFlows.{paid, coupon_flow, followed, later_
 use Rattle.rollout.specs.plain.Rollout.{cash_flows, fitted_in, RolloutPromise}
 
 -- the answer, the days and the amounts
-pub one_rollout : (n : Note) (position : Float) (table days : List ℕ) (amounts : List Float) (r s : FlowsAnswer) (d e : List ℕ) (a b : List Float) → RolloutPromise n position table days amounts r d a → RolloutPromise n position table days amounts s e b → (r ≡ s) × (d ≡ e) × (a ≡ b)
+pub one_rollout : (n : Note) (position : Float) (table days : List ℕ) (amounts : List Float) (r s : Result ℕ Refusal) (d e : List ℕ) (a b : List Float) → RolloutPromise n position table days amounts r d a → RolloutPromise n position table days amounts s e b → (r ≡ s) × (d ≡ e) × (a ≡ b)
 one_rollout n position table days amounts r s d e a b p q =
-    (same_flows-answer r s (p.answer ∙ sym q.answer), p.days-are ∙ sym q.days-are, p.amounts_are ∙ sym q.amounts_are)
+    (same_result r s (p.answer ∙ sym q.answer), p.days-are ∙ sym q.days-are, p.amounts_are ∙ sym q.amounts_are)
 
 module _ (n : Note) (position : Float) (table : List ℕ) where
   paid_numbered : (t : Date) (x : Float) → Numbered (paid n table t x)

@@ -1,127 +1,84 @@
--- A rollout into records: what is written and still due in the second pass.
-use Prim.Native.Nat.{ℕ, ◌+◌, ◌≤◌, ◌<◌}
-use mathlib.Core.Path.{◌≡◌, refl, sym, ◌∙◌, ap, subst}
-use mathlib.Core.List.{List, [], ◌++◌, map-id}
+-- A rollout into records: what was kept of each flow makes it again.
+use Prim.Native.Nat.{ℕ, zero, suc, ◌+◌, ◌≤◌, ◌<◌}
+use mathlib.Core.Path.{◌≡◌, refl, sym, ◌∙◌, ap, ap₂}
+use mathlib.Core.List.{List, [], ◌∷◌, map}
 use native.Mathlib.Omega.{arith}
-use lib.ListN.{length, drop, set}
-use lib.Seq.{drop-length}
-use lib.Ieee.{Float}
+use lib.ListN.{length, take, drop, set, get_or}
+use lib.Ieee.{Float, nan}
+use Rattle.outcome.proofs.Lists.{every_at}
 use Rattle.outcome.specs.Outcome.{Outcome, given, refused, value}
-use Rattle.outcome.proofs.Outcomes.{then_given}
-use Rattle.outcome.specs.Room.{counted}
-use Rattle.outcome.proofs.Fitting.{fitting-given}
-use Rattle.outcome.proofs.Filling.{Filled, filled_none, filled_more, filled_all, count_is, room_is}
-use Rattle.cash_flow.specs.flow.Flows.{flows_outcome}
+use Rattle.outcome.proofs.Outcomes.{given_not_refused}
+use Rattle.outcome.specs.Room.{counted, room_after}
+use Rattle.outcome.proofs.Filling.{Filled, filled_next, count_is, front_taken}
+use Rattle.calendar.specs.dates.Dates.{the_date}
+use Rattle.calendar.specs.declared.dates.Date.{Date}
+use Rattle.calendar.proofs.dates.Dates.{date-yes, date_found, number-from, number-to}
+use Rattle.cash_flow.specs.declared.currency.Currency.{Currency}
 use Rattle.cash_flow.specs.declared.flow.CashFlow.{CashFlow}
-use Rattle.cash_flow.specs.declared.flow.FlowsAnswer.{FlowsAnswer}
-use Rattle.business_days.specs.table.Table.{is_table}
-use Rattle.bond.specs.note.Notes.{is_position, note_checks}
+use Rattle.cash_flow.proofs.flow.NoFlow.{no_flow}
 use Rattle.bond.specs.declared.note.Note.{Note}
-use Rattle.bond.proofs.note.Ends.{passed}
-use Rattle.note_flows.specs.flows.NoteFlows.{note_flows}
-use Rattle.rollout.specs.plain.Rollout.{cash_flows, fitted_in}
-use Rattle.note_flows.specs.schedule.Schedule.{Dated}
-use Rattle.note_flows.specs.flows.Turns.{JudgedNote, flows_due}
-use Rattle.note_flows.specs.declared.schedule.Due.{Due}
-use Rattle.note_flows.specs.declared.schedule.Due.TheVariants.{First}
-use Rattle.rollout.specs.records.Records.{RecordsPromise}
-use Rattle.rollout.specs.buffer.Inner.{KeptAll, FlowDue, FlowIs}
-use Rattle.rollout.specs.declared.buffer.Paid.{Paid}
+use Rattle.note_flows.specs.flows.NoteFlows.{flow_day, amount_of}
+use Rattle.note_flows.specs.flows.Turns.{Kept}
+use Rattle.note_flows.proofs.flows.Flows.{OfNote}
+use Rattle.rollout.specs.plain.Rollout.{cash_flows}
+use Rattle.rollout.proofs.plain.Passes.{cash_flows_of}
 
--- ---- the second pass
+-- an element of a list, where it is kept with others
+element : {A B : Type 0} (part : A → B) (l : List A) (kept : List B) (k : ℕ) (d : A) (e : B) → take (length l) kept ≡ map part l → k < length l → get_or kept k e ≡ part (get_or l k d)
+element part [] kept k d e q h = absurd (omega arith)
+element part (x ∷ l) [] k d e q h = let z : 0 ≡ suc (length (map part l)) = ap length q in absurd (omega arith)
+element part (x ∷ l) (y ∷ kept) zero d e q h = ap (λ (m : List _). get_or m 0 e) q
+element part (x ∷ l) (y ∷ kept) (suc k) d e q h = element part l kept k d e (ap (drop 1) q) (omega arith)
 
--- the flows that are to be written: none where all is refused
-abbrev pub to_write : Note → Float → List ℕ → List CashFlow → List CashFlow
-to_write n position table old = value [] (fitted_in n position table (length old))
+-- the flows that are to be written, none where all is refused
+abbrev pub to_write : Note → Float → List ℕ → List CashFlow
+to_write n position table = value [] (cash_flows n position table)
 
--- k flows are written, the last paid is `paid`, and the others are to come
-pub record Rolling (n : Note) (position : Float) (table : List ℕ) (old : List CashFlow) : Type 0 where
-  pub k : ℕ
-  pub paid : Paid
-  pub out : List CashFlow
-  pub within : k ≤ length (to_write n position table old)
-  pub filled : Filled (to_write n position table old) old k (drop k (to_write n position table old)) out
-  pub next : 256 < length (to_write n position table old) → k < length (to_write n position table old) → Dated paid.next × (flows_due n position table paid.next ≡ given (drop k (to_write n position table old)))
+module _ (n : Note) (position : Float) (table : List ℕ) (m : ℕ) (g : counted (cash_flows n position table) ≡ given m) where
+  given_all : cash_flows n position table ≡ given (to_write n position table)
+  given_all = by (cash_flows n position table) g
+    where
+      by : (o : Outcome (List CashFlow)) → counted o ≡ given m → o ≡ given (value [] o)
+      by (given l) e = refl
+      by (refused k) e = absurd (given_not_refused (sym e))
 
-module _ (n : Note) (position : Float) (table : List ℕ) (old : List CashFlow) where
-  -- what is to be written are all flows of what was judged
-  all_of_lem : (o : Outcome (List CashFlow)) → fitted_in n position table (length old) ≡ o → 0 < length (value [] o) → JudgedNote n position table × (note_flows n position table ≡ given (value [] o)) × (cash_flows n position table ≡ given (value [] o))
-  unfolding cash_flows
-  all_of_lem (given l) e h =
-      let f = fitting-given (length old) (cash_flows n position table) l e in
-      let g = then_given (note_checks (is_position position) (is_table table) n) (λ m. note_flows m position table) l f.0 in
-      let p = passed (is_position position) (is_table table) n g.0 g.1 in
-      (g.1 ∙ ap given (sym p.itself), ap (λ (m : Note). note_flows m position table) p.itself ∙ g.2, f.0)
-  all_of_lem (refused k) e h = absurd (omega arith)
+  pub so_many : length (to_write n position table) ≡ m
+  so_many = sym (count_is (cash_flows n position table)) ∙ ap (value 0) g
 
-  fit_room : (o : Outcome (List CashFlow)) → fitted_in n position table (length old) ≡ o → length (value [] o) ≤ length old
-  fit_room (given l) e = (fitting-given (length old) (cash_flows n position table) l e).1
-  fit_room (refused k) e = omega arith
+  kept_part : {A : Type 0} (part : CashFlow → A) (old new : List A) → Kept part (cash_flows n position table) old new → m ≤ length old → take (length (to_write n position table)) new ≡ map part (to_write n position table)
+  kept_part part old new w h =
+      ap (take (length (to_write n position table))) (w.hold m g h ∙ ap (λ (o : Outcome (List CashFlow)). room_after part o old) given_all)
+      ∙ front_taken part (to_write n position table) (drop (length (to_write n position table)) old)
 
-  pub enough_room : length (to_write n position table old) ≤ length old
-  enough_room = fit_room (fitted_in n position table (length old)) refl
+  module _ (zeros days : List ℕ) (nils amounts : List Float) (kd : Kept flow_day (cash_flows n position table) zeros days) (ka : Kept amount_of (cash_flows n position table) nils amounts) (hd : m ≤ length zeros) (ha : m ≤ length nils) (k : ℕ) (h : k < m) where
+    flow-k : CashFlow
+    flow-k = get_or (to_write n position table) k no_flow
 
-  all_given : 0 < length (to_write n position table old) → JudgedNote n position table × (note_flows n position table ≡ given (to_write n position table old)) × (cash_flows n position table ≡ given (to_write n position table old))
-  all_given h = all_of_lem (fitted_in n position table (length old)) refl h
+    of_note : OfNote n flow-k
+    unfolding flow-k
+    of_note = every_at (OfNote n) (to_write n position table) k no_flow (cash_flows_of n position table (to_write n position table) given_all).0 (omega (arith, so_many))
 
-  pub first-due : (d : Due) → d ≡ First → 0 < length (to_write n position table old) → Dated d × (flows_due n position table d ≡ given (to_write n position table old))
-  first-due d e h = subst (λ (x : Due). Dated x × (flows_due n position table x ≡ given (to_write n position table old))) (sym e) (omega arith, (all_given h).1)
+    kept-day : get_or days k 0 ≡ flow_day flow-k
+    unfolding flow-k
+    kept-day = element flow_day (to_write n position table) days k no_flow 0 (kept_part flow_day zeros days kd hd) (omega (arith, so_many))
 
-  abbrev pub rolling_none : (p : Paid) → p.next ≡ First → Rolling n position table old
-  rolling_none p e = record {
-    k = 0;
-    paid = p;
-    out = old;
-    within = omega arith;
-    filled = filled_none (to_write n position table old) old;
-    next = λ f l. first-due p.next e l;
-  }
+    kept-amount : get_or amounts k nan ≡ amount_of flow-k
+    unfolding flow-k
+    kept-amount = element amount_of (to_write n position table) amounts k no_flow nan (kept_part amount_of nils amounts ka ha) (omega (arith, so_many))
 
-  module _ (t : Rolling n position table old) (l : t.k < length (to_write n position table old)) where
-    pub coming : (days : List ℕ) (amounts : List Float) → KeptAll n position table days amounts → FlowDue n position table days amounts (length (to_write n position table old)) t.k t.paid.next
-    coming days amounts kept =
-        let a = all_given (omega arith) in
-        record { judged = a.0; flows = to_write n position table old; are = a.1; many = refl; kept = λ f. kept.hold (to_write n position table old) a.2 f; next = λ f. t.next f l }
+    pub kept-dated : (1 ≤ get_or days k 0) × (get_or days k 0 ≤ 3652059)
+    kept-dated =
+        let d = date-yes flow-k.date of_note.0 in
+        let a = number-from flow-k.date d in
+        let b = number-to flow-k.date d in
+        (omega (arith, kept-day), omega (arith, kept-day))
 
-    pub k_inside : t.k < length t.out
-    k_inside = omega (arith, enough_room, t.filled.same_length)
+    same : record { date = the_date (get_or days k 0); currency = n.currency; amount = get_or amounts k nan } ≡ flow-k
+    same =
+        ap₂ (λ (t : ℕ) (x : Float). record { date = the_date t; currency = n.currency; amount = x }) kept-day kept-amount
+        ∙ ap (λ (t : Date). record { date = t; currency = n.currency; amount = flow-k.amount }) (date_found flow-k.date (date-yes flow-k.date of_note.0))
+        ∙ ap (λ (y : Currency). record { date = flow-k.date; currency = y; amount = flow-k.amount }) (sym of_note.1)
 
-    module _ (r : Paid) (came : FlowIs n position table (length (to_write n position table old)) t.k t.paid.next r.flow r.next) where
-      pub rolling_filled : Filled (to_write n position table old) old (t.k + 1) (drop (t.k + 1) (to_write n position table old)) (set t.out t.k r.flow)
-      rolling_filled =
-          filled_more (to_write n position table old) old t.k r.flow (drop (t.k + 1) (to_write n position table old)) t.out k_inside
-          (subst (λ (m : List CashFlow). Filled (to_write n position table old) old t.k m t.out) (came.flow (to_write n position table old) (all_given (omega arith)).1) t.filled)
-
-      pub rolling_next : 256 < length (to_write n position table old) → Dated r.next × (flows_due n position table r.next ≡ given (drop (t.k + 1) (to_write n position table old)))
-      rolling_next f = came.due (to_write n position table old) (all_given (omega arith)).1 f
-
-      pub rolling_within : t.k + 1 ≤ length (to_write n position table old)
-      rolling_within = omega arith
-
-      abbrev pub rolling_more : Rolling n position table old
-      rolling_more = record {
-        k = t.k + 1;
-        paid = r;
-        out = set t.out t.k r.flow;
-        within = rolling_within;
-        filled = rolling_filled;
-        next = λ f _. rolling_next f;
-      }
-
-  module _ (r : FlowsAnswer) (answers : flows_outcome r ≡ counted (fitted_in n position table (length old))) where
-    -- as many as the answer says
-    pub so_many : (m : ℕ) → m ≡ value 0 (flows_outcome r) → m ≡ length (to_write n position table old)
-    so_many m e = e ∙ ap (value 0) answers ∙ count_is (fitted_in n position table (length old))
-
-    pub rolled : (t : Rolling n position table old) → length (to_write n position table old) ≤ t.k → RecordsPromise n position table old r t.out
-    rolled t h =
-        let all : t.k ≡ length (to_write n position table old) = omega (arith, t.within) in
-        let none : drop t.k (to_write n position table old) ≡ [] = ap (λ (m : ℕ). drop m (to_write n position table old)) all ∙ drop-length (to_write n position table old) in
-        record {
-          answer = answers;
-          contents =
-              filled_all (to_write n position table old) old t.k t.out (subst (λ (m : List CashFlow). Filled (to_write n position table old) old t.k m t.out) none t.filled)
-              ∙ ap (λ (m : ℕ). to_write n position table old ++ drop m old) all
-              ∙ ap (λ (l : List CashFlow). l ++ drop (length (to_write n position table old)) old) (sym (map-id (to_write n position table old)))
-              ∙ room_is (λ x. x) (fitted_in n position table (length old)) old;
-        }
+    pub rolling_more : (old out : List CashFlow) (x : CashFlow) → x ≡ record { date = the_date (get_or days k 0); currency = n.currency; amount = get_or amounts k nan } → k < length out → Filled (to_write n position table) old k (drop k (to_write n position table)) out → Filled (to_write n position table) old (k + 1) (drop (k + 1) (to_write n position table)) (set out k x)
+    unfolding flow-k
+    rolling_more old out x e l w = rw (e ∙ same) (filled_next (to_write n position table) old (to_write n position table) k no_flow out (omega (arith, so_many)) l w)

@@ -1,26 +1,28 @@
 -- No second answer satisfies an entry point's promise; and a refusal's number is never 0.
+use Rattle.std.specs.Prelude.{Result}
 use Prim.Native.Nat.{ℕ}
 use mathlib.Core.Path.{◌≡◌, sym, ◌∙◌}
 use mathlib.Core.List.{List}
 use native.Mathlib.Omega.{arith}
 use Rattle.outcome.specs.Outcome.{Numbered}
+use Rattle.outcome.specs.Refusals.{outcome_of}
+use Rattle.outcome.specs.declared.Refusal.{Refusal}
 use Rattle.outcome.proofs.Outcomes.{unless_numbered, then_numbered}
+use Rattle.outcome.proofs.Refusals.{same_result}
 use Rattle.number_text.specs.read.Reading.{unsigned_number}
-use Rattle.number_text.specs.write.Writing.{length_outcome, Written}
-use Rattle.number_text.specs.declared.write.LengthAnswer.{LengthAnswer}
+use Rattle.number_text.specs.write.Writing.{Written}
 use Rattle.number_text.proofs.write.OneOutcome.{one_write}
-use Rattle.coupon_date.proofs.OneOutcome.{same_coupon_answer, new_numbered}
+use Rattle.coupon_date.proofs.OneOutcome.{new_numbered}
 use Rattle.number_text.proofs.read.Decimals.{unsigned_numbered}
 use Rattle.term_text.specs.coupon.CouponTexts.{trimmed, has_dot, up_to_dot, after_dot, month_part, day_part, coupon_text, coupon_date_text, ReadCouponPromise}
 use Rattle.coupon_date.specs.Coupons.{coupon_date_of}
 use Rattle.coupon_date.specs.declared.CouponDate.{CouponDate}
-use Rattle.coupon_date.specs.declared.CouponAnswer.{CouponAnswer}
 
-pub one_read : (t : List ℕ) (r s : CouponAnswer) → ReadCouponPromise t r → ReadCouponPromise t s → r ≡ s
-one_read t r s p q = same_coupon_answer r s (p ∙ sym q)
+pub one_read : (t : List ℕ) (r s : Result CouponDate Refusal) → ReadCouponPromise t r → ReadCouponPromise t s → r ≡ s
+one_read t r s p q = same_result r s (p ∙ sym q)
 
 -- the answer and the bytes
-pub one_written : (c : CouponDate) (d e f : List ℕ) (r s : LengthAnswer) → Written d e (coupon_date_text c) (length_outcome r) → Written d f (coupon_date_text c) (length_outcome s) → (r ≡ s) × (e ≡ f)
+pub one_written : (c : CouponDate) (d e f : List ℕ) (r s : Result ℕ Refusal) → Written d e (coupon_date_text c) (outcome_of r) → Written d f (coupon_date_text c) (outcome_of s) → (r ≡ s) × (e ≡ f)
 one_written c d e f r s p q = one_write d e f (coupon_date_text c) r s p q
 
 month_numbered : (d : ℕ) (s : List ℕ) → Numbered (month_part d s)

@@ -2,27 +2,33 @@
 use Prim.Native.Nat.{ℕ, zero, suc, ◌+◌, ◌-◌, ◌≤◌, ◌<◌}
 use mathlib.Core.Path.{◌≡◌, refl, sym, ◌∙◌, ap}
 use mathlib.Core.Bool.{true, false}
-use mathlib.Core.List.{List, [], ◌∷◌, ◌++◌, append_assoc, append-nil}
+use mathlib.Core.List.{List, [], ◌∷◌, ◌++◌}
 use native.Mathlib.Omega.{arith}
 use lib.Dec.{eqb}
-use lib.ListN.{length, take, drop, get_or, drop_of_length-le}
+use lib.ListN.{length, take, drop, get_or}
+use lib.Seq.{take-length}
 use borrow.Author.Tests.{eq-eqb, ne_eqb}
-use Rattle.outcome.proofs.Lists.{head_at, take_more, take_last}
+use Rattle.std.specs.Prelude.{Option, Some, None}
+use Rattle.std.specs.List.{AllWithin, HoldsAt}
+use Rattle.std.specs.Option.{MatchOption, unwrap_or}
+use Rattle.outcome.proofs.Lists.{take_last}
 use Rattle.term_text.specs.coupon.CouponTexts.{is_blank, trim_start, part_before, trim_end, has_dot, up_to_dot, after_dot, DotAt}
 
--- leading blanks: at place i they are still to be trimmed
-module _ (s : List ℕ) (i : ℕ) where
-  pub start_more : (z : List ℕ) → trim_start (drop i s) ≡ z → i < length s → is_blank (get_or s i 0) ≡ true → trim_start (drop (i + 1) s) ≡ z
-  unfolding trim_start
-  start_more z e h b = sym (ap trim_start (head_at s i 0 h) ∙ rw b) ∙ e
+-- a leading blank goes, and any other byte stays
+pub start_less : (s : List ℕ) (d : ℕ) (z : List ℕ) → trim_start s ≡ z → 1 ≤ length s → is_blank (get_or s 0 d) ≡ true → trim_start (drop 1 s) ≡ z
+unfolding trim_start
+start_less [] d z e h b = absurd (omega arith)
+start_less (c ∷ s) d z e h b = rw b at e
 
-  pub start_here : (z : List ℕ) → trim_start (drop i s) ≡ z → i < length s → is_blank (get_or s i 0) ≡ false → drop i s ≡ z
-  unfolding trim_start
-  start_here z e h b = head_at s i 0 h ∙ sym (ap trim_start (head_at s i 0 h) ∙ rw b) ∙ e
+pub start_here : (s : List ℕ) (d : ℕ) (z : List ℕ) → trim_start s ≡ z → 1 ≤ length s → is_blank (get_or s 0 d) ≡ false → s ≡ z
+unfolding trim_start
+start_here [] d z e h b = absurd (omega arith)
+start_here (c ∷ s) d z e h b = rw b at e
 
-  pub start_end : (z : List ℕ) → trim_start (drop i s) ≡ z → length s ≤ i → drop i s ≡ z
-  unfolding trim_start
-  start_end z e h = let n = drop_of_length-le s h in n ∙ sym (ap trim_start n) ∙ e
+pub start_none : (s z : List ℕ) → trim_start s ≡ z → length s < 1 → s ≡ z
+unfolding trim_start
+start_none [] z e h = e
+start_none (c ∷ s) z e h = absurd (omega arith)
 
 -- trailing blanks: the last byte goes, or all stays
 end_blank : (s : List ℕ) (b : ℕ) → is_blank b ≡ true → trim_end (s ++ (b ∷ [])) ≡ trim_end s
@@ -39,59 +45,45 @@ end_stays (c ∷ s) b h = ap (part_before c) (end_stays s b h) ∙ kept c s
     kept c [] = refl
     kept c (d ∷ s) = refl
 
-module _ (s : List ℕ) (i : ℕ) (z : List ℕ) (e : trim_end (take i s) ≡ z) where
-  pub end_less : 1 ≤ i → i ≤ length s → is_blank (get_or s (i - 1) 0) ≡ true → trim_end (take (i - 1) s) ≡ z
-  end_less h k b = sym (ap trim_end (take_last s i 0 h k) ∙ end_blank (take (i - 1) s) (get_or s (i - 1) 0) b) ∙ e
+-- all but the last byte, and the last one
+split-last : (s : List ℕ) (d : ℕ) → 1 ≤ length s → s ≡ take (length s - 1) s ++ (get_or s (length s - 1) d ∷ [])
+split-last s d h = sym (take-length s) ∙ take_last s (length s) d h (omega arith)
 
-  pub end_here : 1 ≤ i → i ≤ length s → is_blank (get_or s (i - 1) 0) ≡ false → take i s ≡ z
-  end_here h k b = take_last s i 0 h k ∙ sym (ap trim_end (take_last s i 0 h k) ∙ end_stays (take (i - 1) s) (get_or s (i - 1) 0) b) ∙ e
+pub end_less : (s : List ℕ) (d : ℕ) (z : List ℕ) → trim_end s ≡ z → 1 ≤ length s → is_blank (get_or s (length s - 1) d) ≡ true → trim_end (take (length s - 1) s) ≡ z
+end_less s d z e h b = sym (ap trim_end (split-last s d h) ∙ end_blank (take (length s - 1) s) (get_or s (length s - 1) d) b) ∙ e
 
-pub end_none : (s : List ℕ) (i : ℕ) (z : List ℕ) → trim_end (take i s) ≡ z → i ≤ 0 → take i s ≡ z
+pub end_here : (s : List ℕ) (d : ℕ) (z : List ℕ) → trim_end s ≡ z → 1 ≤ length s → is_blank (get_or s (length s - 1) d) ≡ false → s ≡ z
+end_here s d z e h b = split-last s d h ∙ sym (ap trim_end (split-last s d h) ∙ end_stays (take (length s - 1) s) (get_or s (length s - 1) d) b) ∙ e
+
+pub end_none : (s z : List ℕ) → trim_end s ≡ z → length s < 1 → s ≡ z
 unfolding trim_end
-end_none s zero z e h = e
-end_none s (suc i) z e h = absurd (omega arith)
+end_none [] z e h = e
+end_none (b ∷ s) z e h = absurd (omega arith)
 
--- before place i there is no dot
-pub record NoDot (s : List ℕ) (i : ℕ) : Type 0 where
-  pub within : i ≤ length s
-  pub first : up_to_dot s ≡ take i s ++ up_to_dot (drop i s)
-  pub has : has_dot s ≡ has_dot (drop i s)
-  pub after : after_dot s ≡ after_dot (drop i s)
+-- the first dot, as the first place at which a byte is one
+no_dot_in : (s : List ℕ) → AllWithin (λ b. b ≡ 46 → ⊥) s 0 (length s) → (has_dot s ≡ false) × (up_to_dot s ≡ s)
+unfolding has_dot up_to_dot
+no_dot_in [] h = (refl, refl)
+no_dot_in (b ∷ s) h =
+    let c : eqb b 46 ≡ false = ne_eqb b 46 (h 0 0 (omega arith) (omega arith)) in
+    let r = no_dot_in s (λ k d l u. h (suc k) d (omega arith) (omega arith)) in
+    (rw c r.0, rw c (ap (λ (t : List ℕ). b ∷ t) r.1))
 
-pub no_dot_yet : (s : List ℕ) → NoDot s 0
-no_dot_yet s = record { within = omega arith; first = refl; has = refl; after = refl }
+dot_in : (s : List ℕ) (i : ℕ) → i < length s → HoldsAt (λ b. b ≡ 46) s i → AllWithin (λ b. b ≡ 46 → ⊥) s 0 i → (has_dot s ≡ true) × (take i s ≡ up_to_dot s) × (drop (i + 1) s ≡ after_dot s)
+unfolding has_dot up_to_dot after_dot
+dot_in [] i h at n = absurd (omega arith)
+dot_in (b ∷ s) zero h at n = let c : eqb b 46 ≡ true = eq-eqb b 46 (at 0) in (rw c, rw c, rw c)
+dot_in (b ∷ s) (suc i) h at n =
+    let c : eqb b 46 ≡ false = ne_eqb b 46 (n 0 0 (omega arith) (omega arith)) in
+    let r = dot_in s i (omega arith) at (λ k d l u. n (suc k) d (omega arith) (omega arith)) in
+    let e : suc i + 1 ≡ suc (i + 1) = omega arith in
+    (rw c r.0, rw c (ap (λ (t : List ℕ). b ∷ t) r.1), rw (e, c) r.2)
 
-pub no_dot_more : (s : List ℕ) (i : ℕ) → NoDot s i → i < length s → (get_or s i 0 ≡ 46 → ⊥) → NoDot s (i + 1)
-unfolding up_to_dot has_dot after_dot
-no_dot_more s i n h d =
-    let c : eqb (get_or s i 0) 46 ≡ false = ne_eqb _ _ d in
-    let b = head_at s i 0 h in
-    record {
-      within = omega arith;
-      first = n.first ∙ ap (λ (r : List ℕ). take i s ++ up_to_dot r) b ∙ rw c (sym (ap (λ (r : List ℕ). r ++ up_to_dot (drop (i + 1) s)) (take_more s i 0 h) ∙ append_assoc (take i s) (get_or s i 0 ∷ []) (up_to_dot (drop (i + 1) s))));
-      has = n.has ∙ ap has_dot b ∙ rw c;
-      after = n.after ∙ ap after_dot b ∙ rw c;
-    }
+pub first_dot : (s : List ℕ) (r : Option ℕ) → MatchOption r (AllWithin (λ b. b ≡ 46 → ⊥) s 0 (length s)) (λ i. (i < length s) × HoldsAt (λ b. b ≡ 46) s i × AllWithin (λ b. b ≡ 46 → ⊥) s 0 i) → DotAt s r
+first_dot s None h = no_dot_in s h
+first_dot s (Some i) h = let d = dot_in s i h.0 h.1 h.2 in (h.0, d.0, d.1, d.2)
 
-pub dot_here : (s : List ℕ) (i : ℕ) → NoDot s i → i < length s → get_or s i 0 ≡ 46 → DotAt s i
-unfolding up_to_dot has_dot after_dot
-dot_here s i n h d =
-    let c : eqb (get_or s i 0) 46 ≡ true = eq-eqb _ _ d in
-    let b = head_at s i 0 h in
-    record {
-      within = n.within;
-      first = sym (n.first ∙ ap (λ (r : List ℕ). take i s ++ up_to_dot r) b ∙ rw c (append-nil (take i s)));
-      there = λ l. (n.has ∙ ap has_dot b ∙ rw c, sym (n.after ∙ ap after_dot b ∙ rw c));
-      none = λ l. absurd (omega arith);
-    }
-
-pub dot_nowhere : (s : List ℕ) (i : ℕ) → NoDot s i → length s ≤ i → DotAt s i
-unfolding up_to_dot has_dot after_dot
-dot_nowhere s i n h =
-    let b = drop_of_length-le s h in
-    record {
-      within = n.within;
-      first = sym (n.first ∙ ap (λ (r : List ℕ). take i s ++ up_to_dot r) b ∙ append-nil (take i s));
-      there = λ l. absurd (omega arith);
-      none = λ l. n.has ∙ ap has_dot b;
-    }
+-- up to the first dot, or to the end
+pub up_to_lem : (s : List ℕ) (r : Option ℕ) → DotAt s r → (unwrap_or r (length s) ≤ length s) × (take (unwrap_or r (length s)) s ≡ up_to_dot s)
+up_to_lem s None h = (omega arith, take-length s ∙ sym h.1)
+up_to_lem s (Some i) h = (omega arith, h.2)

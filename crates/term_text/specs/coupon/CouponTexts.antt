@@ -1,11 +1,12 @@
 -- Coupon dates as dd.mm text.
-use Rattle.std.specs.Prelude.{ℕ, ◌+◌, ◌≤◌, ◌<◌, ◌≡◌, Bool, true, false, List, [], ◌∷◌, ◌++◌, leb, eqb, length, take, drop}
+use Rattle.std.specs.Prelude.{ℕ, ◌+◌, ◌<◌, ◌≡◌, Bool, true, false, List, [], ◌∷◌, ◌++◌, leb, eqb, length, take, drop, Option, Some, None, Result}
 use Rattle.outcome.specs.Outcome.{Outcome, unless, and_then, pick, both}
+use Rattle.outcome.specs.Refusals.{outcome_of}
+use Rattle.outcome.specs.declared.Refusal.{Refusal}
 use Rattle.number_text.specs.read.Reading.{unsigned_number}
 use Rattle.number_text.specs.write.Writing.{padded_text}
-use Rattle.coupon_date.specs.Coupons.{coupon_outcome, coupon_date_of}
+use Rattle.coupon_date.specs.Coupons.{coupon_date_of}
 use Rattle.coupon_date.specs.declared.CouponDate.{CouponDate}
-use Rattle.coupon_date.specs.declared.CouponAnswer.{CouponAnswer}
 
 -- ASCII blanks: 9 to 13 and 32
 unfoldable pub is_blank : ℕ → Bool
@@ -55,12 +56,10 @@ unfoldable pub coupon_date_text : CouponDate → List ℕ
 coupon_date_text c = padded_text 2 c.day ++ (46 ∷ padded_text 2 c.month)
 
 -- what the entry point promises of its result r
-abbrev pub ReadCouponPromise : List ℕ → CouponAnswer → Type 0
-ReadCouponPromise s r = coupon_outcome r ≡ coupon_text s
+abbrev pub ReadCouponPromise : List ℕ → Result CouponDate Refusal → Type 0
+ReadCouponPromise s r = outcome_of r ≡ coupon_text s
 
--- i is the place of the first dot of s, or its length where there is none
-pub record DotAt (s : List ℕ) (i : ℕ) : Type 0 where
-  pub within : i ≤ length s
-  pub first : take i s ≡ up_to_dot s
-  pub there : i < length s → (has_dot s ≡ true) × (drop (i + 1) s ≡ after_dot s)
-  pub none : length s ≤ i → has_dot s ≡ false
+-- i is the place of the first dot of s, if there is one
+abbrev pub DotAt : List ℕ → Option ℕ → Type 0
+DotAt s None = (has_dot s ≡ false) × (up_to_dot s ≡ s)
+DotAt s (Some i) = (i < length s) × (has_dot s ≡ true) × (take i s ≡ up_to_dot s) × (drop (i + 1) s ≡ after_dot s)

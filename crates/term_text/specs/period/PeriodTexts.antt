@@ -1,13 +1,13 @@
 -- The text of a period, read and written.
-use Rattle.std.specs.Prelude.{ℕ, ◌-◌, ◌≡◌, List, [], ◌∷◌, ◌++◌, leb, eqb, length, take, get_or}
+use Rattle.std.specs.Prelude.{ℕ, ◌-◌, ◌≡◌, List, [], ◌∷◌, ◌++◌, leb, eqb, length, take, get_or, Result}
 use Rattle.outcome.specs.Outcome.{Outcome, given, refused, unless, and_then, pick}
+use Rattle.outcome.specs.Refusals.{outcome_of}
+use Rattle.outcome.specs.declared.Refusal.{Refusal}
 use Rattle.number_text.specs.read.Reading.{signed_number}
 use Rattle.number_text.specs.write.Writing.{signed_text}
-use Rattle.time_period.specs.steps.Periods.{period_outcome}
 use Rattle.time_period.specs.declared.steps.TimePeriodUnit.{TimePeriodUnit}
 use Rattle.time_period.specs.declared.steps.TimePeriodUnit.TheVariants.{Daily, BusinessDaily, Weekly, Monthly, Annual}
 use Rattle.time_period.specs.declared.steps.TimePeriod.{TimePeriod}
-use Rattle.time_period.specs.declared.steps.PeriodAnswer.{PeriodAnswer}
 
 -- the last byte is D (68), B (66), W (87), M (77) or Y (89), else 3
 unfoldable pub unit_of_letter : ℕ → Outcome TimePeriodUnit
@@ -42,5 +42,5 @@ unfoldable pub period_text : TimePeriod → List ℕ
 period_text p = signed_text p.num ++ (letter_of p.unit ∷ [])
 
 -- what the reader promises of its result r
-abbrev pub ReadPeriodPromise : List ℕ → PeriodAnswer → Type 0
-ReadPeriodPromise s r = period_outcome r ≡ period_read s
+abbrev pub ReadPeriodPromise : List ℕ → Result TimePeriod Refusal → Type 0
+ReadPeriodPromise s r = outcome_of r ≡ period_read s

@@ -1,13 +1,14 @@
 -- No second answer satisfies an entry point's promise; and a refusal's number is never 0.
+use Rattle.std.specs.Prelude.{Result}
 use mathlib.Core.Path.{◌≡◌, refl, sym, ◌∙◌}
 use mathlib.Core.Bool.{Bool, true, false}
 use native.Mathlib.Omega.{arith}
 use Rattle.outcome.specs.Outcome.{Numbered, unless}
+use Rattle.outcome.specs.declared.Refusal.{Refusal}
 use Rattle.outcome.proofs.Outcomes.{unless_numbered, then_numbered}
+use Rattle.outcome.proofs.Refusals.{same_result}
 use Rattle.calendar.specs.dates.Dates.{is_date}
 use Rattle.calendar.specs.declared.dates.Date.{Date}
-use Rattle.calendar.specs.declared.serial.DateAnswer.{DateAnswer}
-use Rattle.calendar.proofs.dates.OneOutcome.{same_date_answer}
 use Rattle.time_period.specs.steps.Steps.{Holidays, stepped, inverse_of, served}
 use Rattle.time_period.specs.declared.steps.TimePeriod.{TimePeriod}
 use Rattle.time_period.proofs.steps.Steps.{step_refuses}
@@ -15,12 +16,12 @@ use Rattle.time_period.proofs.steps.OneOutcome.{numbered_by, inverse_numbered}
 use Rattle.time_period.specs.added.Added.{accepted, judged_step, add_to, sub_from, AddPromise, SubPromise}
 
 -- with a table and without
-module _ (p : TimePeriod) (h : Holidays) (t : Date) (r s : DateAnswer) where
+module _ (p : TimePeriod) (h : Holidays) (t : Date) (r s : Result Date Refusal) where
   pub one-add : AddPromise p h t r → AddPromise p h t s → r ≡ s
-  one-add v w = same_date_answer r s (v ∙ sym w)
+  one-add v w = same_result r s (v ∙ sym w)
 
   pub one-sub : SubPromise p h t r → SubPromise p h t s → r ≡ s
-  one-sub v w = same_date_answer r s (v ∙ sym w)
+  one-sub v w = same_result r s (v ∙ sym w)
 
 -- every refusal has its number
 judged_numbered : (p : TimePeriod) (h : Holidays) (t : Date) → Numbered (judged_step p h t)

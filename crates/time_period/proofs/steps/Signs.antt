@@ -1,5 +1,4 @@
--- Signed 32-bit numbers as the code has them: negated, seven times as many, and their sign and
--- magnitude apart.
+-- Signed 32-bit numbers as the code has them: negated, and their sign and magnitude apart.
 use Prim.Native.Nat.{ℕ, zero, suc, ◌+◌, ◌-◌, ◌*◌, ◌^◌, ◌≤◌, ◌<◌}
 use mathlib.Core.Path.{◌≡◌, refl, sym, ◌∙◌, ap, subst}
 use mathlib.Core.Bool.{true, false, false≢true, true≢false}
@@ -7,28 +6,23 @@ use mathlib.Core.List.{List}
 use native.Mathlib.Omega.{arith}
 use lib.IntN.{ℤ, pos, negsuc, neg_ℤ, nat_abs, ◌+ℤ◌, ◌-ℤ◌, ◌*ℤ◌, +ℤ_idl, -ℤ-+ℤ_cancel}
 use lib.Signed.{mag, lt_z}
-use mir.Syntax.{w32, w64}
+use mir.Syntax.{w32}
 use mir.Val.{SFits, to_z, of_z}
 use mir.Facts.{to_z-of_z}
-use borrow.Author.Tests.{eqb-false, eq-eqb, ne_eqb, lt-ltb, ltb-true, ltb-false}
+use borrow.Author.Tests.{eqb-false, lt-ltb, ltb-true, ltb-false}
 use Rattle.outcome.specs.Signs.{is_negative}
 use Rattle.business_days.specs.table.Business.{later_from, earlier_from}
-use Rattle.time_period.specs.steps.Steps.{is_least, business_day}
-use Rattle.outcome.proofs.Numbers.{widened}
+use Rattle.outcome.specs.Outcome.{and_then}
+use Rattle.calendar.specs.dates.Dates.{day_number}
+use Rattle.calendar.specs.serial.Answers.{date_of}
+use Rattle.calendar.specs.declared.dates.Date.{Date}
+use Rattle.time_period.specs.steps.Steps.{table, is_least, business_step}
 
 -- what is told of a struct's number
 pub told : (z : ℤ) → mag z < 2 ^ 31 → SFits w32 z
 told z h = record { sfits = h }
 
 -- ---- negated: all but the least fit
-
-pub least : (z : ℤ) → SFits w32 z → of_z w32 z ≡ 2147483648 → is_least z ≡ true
-least (pos n) f e = absurd (omega (arith, f.sfits))
-least (negsuc n) f e = eq-eqb n 2147483647 (omega (arith, f.sfits))
-
-pub not_least : (z : ℤ) → SFits w32 z → (of_z w32 z ≡ 2147483648 → ⊥) → is_least z ≡ false
-not_least (pos n) f e = refl
-not_least (negsuc n) f e = ne_eqb n 2147483647 (λ q. e (omega arith))
 
 pub positive_not_least : (z : ℤ) → lt_z (pos 0) z ≡ true → is_least z ≡ false
 positive_not_least (pos n) e = refl
@@ -49,43 +43,18 @@ module _ (z : ℤ) (f : SFits w32 z) (e : is_least z ≡ false) where
   pub minus_read : to_z w32 (of_z w32 (pos 0 -ℤ to_z w32 (of_z w32 z))) ≡ neg_ℤ z
   minus_read = to_z-of_z minus_fits ∙ minus_is
 
--- ---- a week's seven days, in 64 bits
-
-negated_is : (m : ℕ) → 1 ≤ m → neg_ℤ (pos m) ≡ negsuc (m - 1)
-negated_is zero h = absurd (omega arith)
-negated_is (suc n) h = ap negsuc (omega arith)
-
-seven_fits : (z : ℤ) → SFits w32 z → SFits w64 (pos 7 *ℤ z)
-seven_fits (pos n) f = record { sfits = omega (arith, f.sfits) }
-seven_fits (negsuc n) f = rw (negated_is (7 * suc n) (omega arith)) (record { sfits = omega (arith, f.sfits) })
-
-seven_short : (z : ℤ) → SFits w32 z → mag (pos 7 *ℤ z) < 17179869184
-seven_short (pos n) f = omega (arith, f.sfits)
-seven_short (negsuc n) f = rw (negated_is (7 * suc n) (omega arith)) (omega (arith, f.sfits))
-
-module _ (z : ℤ) (f : SFits w32 z) where
-  weeks_is : pos 7 *ℤ to_z w64 (of_z w64 (to_z w32 (of_z w32 z))) ≡ pos 7 *ℤ z
-  weeks_is = ap (λ (n : ℤ). pos 7 *ℤ n) (widened z f)
-
-  pub weeks_fit : SFits w64 (pos 7 *ℤ to_z w64 (of_z w64 (to_z w32 (of_z w32 z))))
-  weeks_fit = subst (SFits w64) (sym weeks_is) (seven_fits z f)
-
-  pub weeks_short : mag (to_z w64 (of_z w64 (pos 7 *ℤ to_z w64 (of_z w64 (to_z w32 (of_z w32 z)))))) < 17179869184
-  weeks_short = subst (λ (n : ℤ). mag n < 17179869184) (sym (to_z-of_z weeks_fit ∙ weeks_is)) (seven_short z f)
-
-  pub weeks_read : to_z w64 (of_z w64 (pos 7 *ℤ to_z w64 (of_z w64 (to_z w32 (of_z w32 z))))) ≡ pos 7 *ℤ z
-  weeks_read = to_z-of_z weeks_fit ∙ weeks_is
-
 -- ---- business days, by the sign and the magnitude
 
-module _ (h : List ℕ) (d k : ℕ) where
-  pub business_back : (z : ℤ) → is_negative z ≡ true → k ≡ nat_abs z → earlier_from h k d ≡ business_day h z d
-  business_back (pos n) e m = absurd (false≢true e)
-  business_back (negsuc n) e m = ap (λ (j : ℕ). earlier_from h j d) m
+module _ (h : List ℕ) (t : Date) (d k : ℕ) (e : d ≡ day_number t) where
+  pub business_back : (z : ℤ) → is_negative z ≡ true → k ≡ nat_abs z → and_then (earlier_from h k d) date_of ≡ business_step z (table h) t
+  unfolding business_step
+  business_back (pos n) s m = absurd (false≢true s)
+  business_back (negsuc n) s m = rw (e, m)
 
-  pub business_on : (z : ℤ) → is_negative z ≡ false → k ≡ nat_abs z → later_from h k d ≡ business_day h z d
-  business_on (pos n) e m = ap (λ (j : ℕ). later_from h j d) m
-  business_on (negsuc n) e m = absurd (true≢false e)
+  pub business_on : (z : ℤ) → is_negative z ≡ false → k ≡ nat_abs z → and_then (later_from h k d) date_of ≡ business_step z (table h) t
+  unfolding business_step
+  business_on (pos n) s m = rw (e, m)
+  business_on (negsuc n) s m = absurd (true≢false s)
 
 -- ---- above zero and below
 
@@ -93,6 +62,10 @@ module _ (h : List ℕ) (d k : ℕ) where
 pub positive : (z : ℤ) → lt_z z (pos 1) ≡ false → lt_z (pos 0) z ≡ true
 positive (pos n) e = lt-ltb 0 n (omega (arith, ltb-false n 1 e))
 positive (negsuc n) e = absurd (true≢false e)
+
+negated_is : (m : ℕ) → 1 ≤ m → neg_ℤ (pos m) ≡ negsuc (m - 1)
+negated_is zero h = absurd (omega arith)
+negated_is (suc n) h = ap negsuc (omega arith)
 
 pub seven_on : (z : ℤ) → lt_z (pos 0) z ≡ true → lt_z (pos 0) (pos 7 *ℤ z) ≡ true
 seven_on (pos n) e = lt-ltb 0 (7 * n) (omega (arith, ltb-true 0 n e))

@@ -1,10 +1,10 @@
 -- A period added to a date and subtracted from it: what is refused, and in which order.
-use Rattle.std.specs.Prelude.{◌≡◌, Bool, true}
+use Rattle.std.specs.Prelude.{◌≡◌, Bool, true, Result}
 use Rattle.outcome.specs.Outcome.{Outcome, unless, and_then}
+use Rattle.outcome.specs.Refusals.{outcome_of}
+use Rattle.outcome.specs.declared.Refusal.{Refusal}
 use Rattle.calendar.specs.dates.Dates.{is_date}
-use Rattle.calendar.specs.serial.Answers.{date_outcome}
 use Rattle.calendar.specs.declared.dates.Date.{Date}
-use Rattle.calendar.specs.declared.serial.DateAnswer.{DateAnswer}
 use Rattle.business_days.specs.table.Table.{is_table}
 use Rattle.time_period.specs.steps.Steps.{Holidays, absent, table, stepped, inverse_of, served}
 use Rattle.time_period.specs.declared.steps.TimePeriod.{TimePeriod}
@@ -25,8 +25,8 @@ unfoldable pub sub_from : TimePeriod → Holidays → Date → Outcome Date
 sub_from p h t = unless (is_date t) 1 (and_then (inverse_of p) (λ q. judged_step q h t))
 
 -- what the entry points promise of their result r
-abbrev pub AddPromise : TimePeriod → Holidays → Date → DateAnswer → Type 0
-AddPromise p h t r = date_outcome r ≡ add_to p h t
+abbrev pub AddPromise : TimePeriod → Holidays → Date → Result Date Refusal → Type 0
+AddPromise p h t r = outcome_of r ≡ add_to p h t
 
-abbrev pub SubPromise : TimePeriod → Holidays → Date → DateAnswer → Type 0
-SubPromise p h t r = date_outcome r ≡ sub_from p h t
+abbrev pub SubPromise : TimePeriod → Holidays → Date → Result Date Refusal → Type 0
+SubPromise p h t r = outcome_of r ≡ sub_from p h t

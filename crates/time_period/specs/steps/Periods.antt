@@ -1,38 +1,21 @@
 -- Periods, and how many of them make a year.
-use Rattle.std.specs.Prelude.{ℕ, ◌≡◌, eqb, pos, nat_abs}
+use Rattle.std.specs.Prelude.{ℕ, ◌≡◌, eqb, pos, nat_abs, Result}
 use Rattle.outcome.specs.Outcome.{Outcome, given, refused, returned, pick}
+use Rattle.outcome.specs.Refusals.{outcome_of}
+use Rattle.outcome.specs.declared.Refusal.{Refusal}
 use Rattle.time_period.specs.declared.steps.TimePeriodUnit.{TimePeriodUnit}
 use Rattle.time_period.specs.declared.steps.TimePeriodUnit.TheVariants.{Daily, BusinessDaily, Weekly, Monthly, Annual}
 use Rattle.time_period.specs.declared.steps.TimePeriod.{TimePeriod}
-use Rattle.time_period.specs.declared.steps.PeriodAnswer.{PeriodAnswer}
-use Rattle.time_period.specs.declared.steps.PeriodAnswer.TheVariants as period-answer
-use Rattle.time_period.specs.declared.frequencies.FrequencyAnswer.{FrequencyAnswer}
-use Rattle.time_period.specs.declared.frequencies.FrequencyAnswer.TheVariants as frequency-answer
-use Rattle.time_period.specs.declared.steps.UnitAnswer.{UnitAnswer}
-use Rattle.time_period.specs.declared.steps.UnitAnswer.TheVariants as unit-answer
-
--- the outcome that each answer is
-abbrev pub period_outcome : PeriodAnswer → Outcome TimePeriod
-period_outcome (period-answer.Period p) = given p
-period_outcome (period-answer.Refused n) = refused n
-
-abbrev pub frequency_outcome : FrequencyAnswer → Outcome ℕ
-frequency_outcome (frequency-answer.Frequency f) = given f
-frequency_outcome (frequency-answer.Refused n) = refused n
-
-abbrev pub unit_outcome : UnitAnswer → Outcome TimePeriodUnit
-unit_outcome (unit-answer.Unit u) = given u
-unit_outcome (unit-answer.Refused n) = refused n
 
 -- the zero of a period, and what is returned of an answer
 abbrev pub period_zero : TimePeriod
 period_zero = record { num = pos 0; unit = Daily }
 
-abbrev pub period_returned : PeriodAnswer → ℕ × TimePeriod
-period_returned r = returned period_zero (period_outcome r)
+abbrev pub period_returned : Result TimePeriod Refusal → ℕ × TimePeriod
+period_returned r = returned period_zero (outcome_of r)
 
-abbrev pub frequency_returned : FrequencyAnswer → ℕ × ℕ
-frequency_returned r = returned 0 (frequency_outcome r)
+abbrev pub frequency_returned : Result ℕ Refusal → ℕ × ℕ
+frequency_returned r = returned 0 (outcome_of r)
 
 -- 1, 3, 6, 12 months give 12, 4, 2, 1
 unfoldable pub months_frequency : ℕ → Outcome ℕ
@@ -60,5 +43,5 @@ unfoldable pub frequency_of : TimePeriod → Outcome ℕ
 frequency_of p = unit_frequency p.unit (nat_abs p.num)
 
 -- what the entry points promise of their result r
-abbrev pub FrequencyPromise : TimePeriod → FrequencyAnswer → Type 0
-FrequencyPromise p r = frequency_outcome r ≡ frequency_of p
+abbrev pub FrequencyPromise : TimePeriod → Result ℕ Refusal → Type 0
+FrequencyPromise p r = outcome_of r ≡ frequency_of p

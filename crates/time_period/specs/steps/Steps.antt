@@ -1,6 +1,9 @@
 -- Steps: where a period leads from a date, forwards and back.
-use Rattle.std.specs.Prelude.{ℕ, suc, ◌≡◌, Bool, true, false, not, List, eqb, ℤ, pos, negsuc, neg_ℤ, ◌*ℤ◌}
+use Rattle.std.specs.Prelude.{ℕ, suc, ◌≡◌, Bool, true, false, not, List, eqb, ℤ, pos, negsuc, neg_ℤ, ◌*ℤ◌, Result, Option, Some, None}
+use Rattle.std.specs.Borrow.{Bor}
 use Rattle.outcome.specs.Outcome.{Outcome, given, refused, unless, and_then}
+use Rattle.outcome.specs.Refusals.{outcome_of}
+use Rattle.outcome.specs.declared.Refusal.{Refusal}
 use Rattle.calendar.specs.dates.Dates.{day_number}
 use Rattle.calendar.specs.serial.Answers.{date_of}
 use Rattle.calendar.specs.declared.dates.Day.{Day}
@@ -9,14 +12,23 @@ use Rattle.date_step.specs.Steps.{days_later, months_later, years_later}
 use Rattle.business_days.specs.table.Business.{later_from, earlier_from}
 use Rattle.time_period.specs.declared.steps.TimePeriodUnit.{TimePeriodUnit}
 use Rattle.time_period.specs.declared.steps.TimePeriodUnit.TheVariants.{Daily, BusinessDaily, Weekly, Monthly, Annual}
+use Rattle.business_days.specs.declared.table.Holidays.{Holidays as Judged}
 use Rattle.time_period.specs.declared.steps.TimePeriod.{TimePeriod}
-use Rattle.time_period.specs.declared.steps.PeriodAnswer.{PeriodAnswer}
-use Rattle.time_period.specs.steps.Periods.{period_outcome}
 
 -- a holiday table is given, or there is none
 pub data Holidays : Type 0 where
   absent : Holidays
   table : List ℕ → Holidays
+
+-- a table that is lent, or none
+abbrev pub lent : Option (Bor (List ℕ)) → Holidays
+lent (Some h) = table h.now
+lent None = absent
+
+-- a table that was judged, or none
+abbrev pub judged : Option Judged → Holidays
+judged (Some h) = table h.days.now
+judged None = absent
 
 -- B steps over business days, back for a negative number
 abbrev pub business_day : List ℕ → ℤ → ℕ → Outcome Day
@@ -64,5 +76,5 @@ served u absent = not (needs_table u)
 served u (table h) = true
 
 -- what the entry point promises of its result r
-abbrev pub InversePromise : TimePeriod → PeriodAnswer → Type 0
-InversePromise p r = period_outcome r ≡ inverse_of p
+abbrev pub InversePromise : TimePeriod → Result TimePeriod Refusal → Type 0
+InversePromise p r = outcome_of r ≡ inverse_of p

@@ -1,22 +1,15 @@
--- `business_days::bdays_earlier` meets its contract: the day and the table are judged in the order
--- of the refusals, and then the question is put.
-use mathlib.Core.Path.{sym, ◌∙◌}
+-- `bdays_earlier` meets its contract: the day and the table are judged in the order of the refusals, and
+-- then the question is put.
+use Rattle.std.proofs.Common.{sym, ◌∙◌}
+use Rattle.outcome.proofs.Refusals.{refused_on}
 use Rattle.business_days.specs.days.Answers.{bdays_earlier}
-use Rattle.business_days.specs.table.Business.{earlier_from}
-use Rattle.business_days.proofs.days.Judging.{no_day, no_table, both_taken, is_judged}
+use Rattle.business_days.proofs.days.Judging.{judged_on}
 use Rattle.business_days.proofs.days.bdays_earlier.Goals as goal
 
-pub returns-then-not-is_day : goal.returns-then-not-is_day
+pub returns-in_err-judged_spot : goal.returns-in_err-judged_spot
 unfolding bdays_earlier
-returns-then-not-is_day c = no_day c.args.d c.args.table.now (earlier_from c.args.table.now c.args.k c.args.d.0) (sym c.is_day.ensures ∙ c.if-not-is_day.true)
-
-pub returns-then-not-is_table : goal.returns-then-not-is_table
-unfolding bdays_earlier
-returns-then-not-is_table c = no_table c.args.d c.args.table.now (earlier_from c.args.table.now c.args.k c.args.d.0) (sym c.is_day.ensures ∙ c.if-not-is_day.false) (sym c.is_table.ensures ∙ c.if-not-is_table.true)
-
-pub earlier_from-requires : goal.earlier_from-requires
-earlier_from-requires c = is_judged c.args.d c.args.table.now (sym c.is_day.ensures ∙ c.if-not-is_day.false) (sym c.is_table.ensures ∙ c.if-not-is_table.false)
+returns-in_err-judged_spot c = refused_on _ _ c.from_residual.ensures.1 ∙ judged_on _ _ _ _ _ c.in_err-judged_spot.ensures
 
 pub returns : goal.returns
 unfolding bdays_earlier
-returns c = c.earlier_from.ensures ∙ both_taken c.args.d c.args.table.now (earlier_from c.args.table.now c.args.k c.args.d.0) (sym c.is_day.ensures ∙ c.if-not-is_day.false) (sym c.is_table.ensures ∙ c.if-not-is_table.false)
+returns c = let x = c.in_ok-judged_spot.ensures in rw (x.0, x.1, sym x.2, sym x.3) c.earlier.ensures

@@ -1,30 +1,32 @@
--- `business_days::walk_on` meets its contract: at each day what is left to do is the whole answer.
--- The measure is the days left of the calendar.
-use mathlib.Core.Path.{sym, ◌∙◌}
-use native.Mathlib.Omega.{arith}
-use Rattle.business_days.proofs.walk.Walks.{onward_from, onward_done, onward_over, onward_inside, onward_holiday, onward_weekend, onward_business}
+-- `walk_on` meets its contract: at each day what is left to do is the whole answer.
+use Rattle.std.proofs.Common.{sym, ◌∙◌, ap, ℕ, arith}
+use Rattle.business_days.specs.table.Business.{next_from, later_from}
+use Rattle.business_days.proofs.table.Steps.{no_step}
+use Rattle.business_days.proofs.walk.Walks.{onward_from, onward_over, onward_inside, onward_holiday, onward_weekend, onward_reached, onward_business}
 use Rattle.business_days.proofs.walk.walk_on.Goals as goal
+use Rattle.business_days.proofs.walk.walk_on.Goals.{then-at-holiday, else-at-holiday+then-not-is_weekend+else-left-eq0, else-at-holiday+else-not-is_weekend}
 
-pub loop-left-init : goal.loop-left-init
-loop-left-init c = onward_from _ _ _ _ c.requires.0 c.requires.1 c.holiday_at-holiday.ensures
+pub returns-then-k-eq0 : goal.returns-then-k-eq0
+returns-then-k-eq0 c = sym (no_step (next_from c.args.part.now) c.args.n) ∙ ap (λ (j : ℕ). later_from c.args.part.now j c.args.n) (sym c.if-k-eq0.true)
 
-pub returns-then-at-ge-LAST_DAY : goal.returns-then-at-ge-LAST_DAY
-returns-then-at-ge-LAST_DAY c = onward_over c.loop-left.invariant c.loop-left-test.true (omega arith)
+pub loop-at-init : goal.loop-at-init
+loop-at-init c = onward_from _ _ _ _ c.if-k-eq0.false c.requires.0 c.requires.1 c.holiday_at-holiday.ensures
 
 pub overflow_add-i : goal.overflow_add-i
-overflow_add-i c = omega (arith, onward_inside c.loop-left.invariant c.loop-left-test.true (omega arith) c.if-at-holiday.true)
+overflow_add-i c = omega (arith, onward_inside c.loop-at.invariant c.loop-at-test.true c.if-at-holiday.true)
 
-pub loop-left-preserved-then-at-holiday : goal.loop-left-preserved-then-at-holiday
-loop-left-preserved-then-at-holiday c = onward_holiday c.loop-left.invariant c.loop-left-test.true (omega arith) c.if-at-holiday.true _ c.holiday_at-holiday-then-at-holiday.ensures
+pub returns-then-left-eq0 : goal.returns-then-left-eq0
+returns-then-left-eq0 c = onward_reached c.loop-at.invariant c.loop-at-test.true c.if-at-holiday.false (sym c.is_weekend.ensures ∙ c.if-not-is_weekend.true) c.if-left-eq0.true
 
-pub is_weekend-requires : goal.is_weekend-requires
-is_weekend-requires c = (omega arith, omega (arith, c.loop-left.invariant.to))
-
-pub loop-left-preserved-then-is_weekend : goal.loop-left-preserved-then-is_weekend
-loop-left-preserved-then-is_weekend c = onward_weekend c.loop-left.invariant c.loop-left-test.true (omega arith) c.if-at-holiday.false (sym c.is_weekend.ensures ∙ c.if-is_weekend.true)
-
-pub loop-left-preserved : goal.loop-left-preserved
-loop-left-preserved c = onward_business c.loop-left.invariant c.loop-left-test.true (omega arith) c.if-at-holiday.false (sym c.is_weekend.ensures ∙ c.if-is_weekend.false)
+pub loop-at-preserved : goal.loop-at-preserved
+loop-at-preserved c =
+    let going = c.loop-at.invariant in
+    let inside = c.loop-at-test.true in
+    elim c.if-at-holiday.branch [
+      | then-at-holiday w ↦ rw (w.left-is, w.i-is, w.holiday-is) (onward_holiday going inside w.if-at-holiday.true _ w.holiday_at-holiday-then-at-holiday.ensures)
+      | else-at-holiday+then-not-is_weekend+else-left-eq0 w ↦ rw (w.left-is, w.i-is, w.holiday-is) (onward_business going inside w.if-at-holiday.false (sym w.is_weekend.ensures ∙ w.if-not-is_weekend.true) w.if-left-eq0.false)
+      | else-at-holiday+else-not-is_weekend w ↦ rw (w.left-is, w.i-is, w.holiday-is) (onward_weekend going inside w.if-at-holiday.false (sym w.is_weekend.ensures ∙ w.if-not-is_weekend.false))
+    ]
 
 pub returns : goal.returns
-returns c = onward_done c.loop-left.invariant c.loop-left-test.false
+returns c = onward_over c.loop-at.invariant c.loop-at-test.false

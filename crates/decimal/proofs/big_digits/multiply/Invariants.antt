@@ -6,7 +6,4 @@ use Rattle.decimal.proofs.big_digits.Multiplying.{Half}
 use Rattle.decimal.proofs.big_digits.multiply.Given as goal
 
 abbrev pub invariant-loop-i : goal.invariant-loop-i
-invariant-loop-i l = (l.i ≤ length l.initial.out) × (length l.out ≡ length l.initial.out) × (l.carry ≤ 2 * l.m) × ((n : ℕ) → l.initial.out ≡ digits (length l.initial.out) n → Half l.m l.out l.i l.carry (length l.initial.out) n)
-
-abbrev pub decreases-loop-i : goal.decreases-loop-i
-decreases-loop-i l = l.i
+invariant-loop-i l = (length l.out ≡ length l.initial.out) × (l.carry ≤ 2 * l.m) × ((n : ℕ) → l.initial.out ≡ digits (length l.initial.out) n → Half l.m l.out l.i l.carry (length l.initial.out) n)

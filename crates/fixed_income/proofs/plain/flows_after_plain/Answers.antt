@@ -1,45 +1,44 @@
--- `fixed_income::flows_after_plain` meets its contract: the first pass answers, and the second
--- writes where it did not refuse.
-use Prim.Native.Nat.{ℕ}
-use mathlib.Core.Path.{◌≡◌, sym, ap, ◌∙◌}
-use native.Mathlib.Omega.{arith}
-use mathlib.Core.List.{List}
-use lib.Ieee.{Float}
-use lib.ListN.{length, take}
-use Rattle.calendar.specs.declared.dates.Day.{Day}
-use lib.Seq.{length-take-le}
-use Rattle.outcome.specs.Room.{counted}
-use Rattle.cash_flow.specs.flow.Flows.{flows_outcome}
-use Rattle.cash_flow.specs.declared.flow.FlowsAnswer.{FlowsAnswer}
-use Rattle.fixed_income.specs.plain.Plain.{plain_flows, shortest, days_written, listed_written}
+-- `fixed_income::flows_after_plain` meets its contract: the first pass answers, and each turn that
+-- finds a later flow writes its three parts.
+use mathlib.Core.Path.{sym, ap, ◌∙◌}
+use lib.ListN.{length}
+use Prim.Native.Nat.{min}
+use Rattle.outcome.proofs.Refusals.{refused_on}
 use Rattle.fixed_income.specs.records.Promises.{is_refused}
-use Rattle.fixed_income.proofs.plain.Columns.{listed_length, days_decide, all_kept}
+use Rattle.fixed_income.proofs.plain.Columns.{answered, all_kept, told, places_at, turn_yes, turn_no, turns_done}
 use Rattle.fixed_income.proofs.plain.flows_after_plain.Goals as goal
+use Rattle.fixed_income.proofs.plain.flows_after_plain.Goals.{then-day-days, else-day-days}
 
--- the answer is the one that the three lists decide
-answered : (day : Day) (ds cs : List ℕ) (xs : List Float) (n places a b c : ℕ) (r : FlowsAnswer) → n ≡ shortest (length ds) (length cs) (length xs) → places ≡ shortest a b c
-    → flows_outcome r ≡ counted (days_written day (take n ds) places) → flows_outcome r ≡ counted (listed_written day (plain_flows ds cs xs) (shortest a b c))
-answered day ds cs xs n places a b c r e f h = h ∙ ap (λ (m : ℕ). counted (days_written day (take n ds) m)) f ∙ days_decide day ds cs xs n (shortest a b c) e
+pub returns-in_err-count : goal.returns-in_err-count
+returns-in_err-count c =
+    let a = c.args in
+    let e = answered a.day a.days.now a.currencies.now a.amounts.now c.min-n.result c.min-places.result (length a.out_days.now) (length a.out_currencies.now) (length a.out_amounts.now) _ (c.min-n.ensures ∙ ap (min (length a.days.now)) c.min.ensures) (c.min-places.ensures ∙ ap (min (length a.out_days.now)) c.min-2.ensures) c.in_err-count.ensures in
+    record { answer = refused_on _ _ c.from_residual.ensures.1 ∙ e; contents = all_kept _ a.out_days.now a.out_currencies.now a.out_amounts.now (ap is_refused (sym e)) }
 
-pub slice_bounds-answer_plain-end : goal.slice_bounds-answer_plain-end
-slice_bounds-answer_plain-end c = sym (length-take-le c.shortest_of-n.result c.args.days.now (omega (arith, c.shortest_of-n.ensures)))
+pub bounds-out_days-k : goal.bounds-out_days-k
+bounds-out_days-k c =
+    let l = c.loop-i in
+    (places_at c.args.day c.args.days.now c.args.currencies.now c.args.amounts.now c.args.out_days.now c.args.out_currencies.now c.args.out_amounts.now c.min-n.result c.min-places.result c.in_ok-count.count (c.min-n.ensures ∙ ap (min (length c.args.days.now)) c.min.ensures) (c.min-places.ensures ∙ ap (min (length c.args.out_days.now)) c.min-2.ensures) c.in_ok-count.ensures l.i l.k l.out_days l.out_currencies l.out_amounts l.invariant c.loop-i-test.true c.if-day-days.true).0
 
-pub write_plain-requires : goal.write_plain-requires
-write_plain-requires c = record {
-  n_value = c.shortest_of-n.ensures ∙ sym (listed_length c.args.days.now c.args.currencies.now c.args.amounts.now);
-  out_amounts_value = ap is_refused (sym (answered c.args.day c.args.days.now c.args.currencies.now c.args.amounts.now c.shortest_of-n.result c.shortest_of-places.result (length c.args.out_days.now) (length c.args.out_currencies.now) (length c.args.out_amounts.now) c.answer_plain.result c.shortest_of-n.ensures c.shortest_of-places.ensures c.answer_plain.ensures)) ∙ ap (λ (r : FlowsAnswer). is_refused (flows_outcome r)) c.in-Flows.is;
-}
+pub bounds-out_currencies-k : goal.bounds-out_currencies-k
+bounds-out_currencies-k c =
+    let l = c.loop-i in
+    (places_at c.args.day c.args.days.now c.args.currencies.now c.args.amounts.now c.args.out_days.now c.args.out_currencies.now c.args.out_amounts.now c.min-n.result c.min-places.result c.in_ok-count.count (c.min-n.ensures ∙ ap (min (length c.args.days.now)) c.min.ensures) (c.min-places.ensures ∙ ap (min (length c.args.out_days.now)) c.min-2.ensures) c.in_ok-count.ensures l.i l.k l.out_days l.out_currencies l.out_amounts l.invariant c.loop-i-test.true c.if-day-days.true).1
 
-pub returns-in-Flows : goal.returns-in-Flows
-returns-in-Flows c = record {
-  answer = ap flows_outcome (sym c.in-Flows.is) ∙ (answered c.args.day c.args.days.now c.args.currencies.now c.args.amounts.now c.shortest_of-n.result c.shortest_of-places.result (length c.args.out_days.now) (length c.args.out_currencies.now) (length c.args.out_amounts.now) c.answer_plain.result c.shortest_of-n.ensures c.shortest_of-places.ensures c.answer_plain.ensures);
-  contents = c.write_plain.ensures;
-}
+pub bounds-out_amounts-k : goal.bounds-out_amounts-k
+bounds-out_amounts-k c =
+    let l = c.loop-i in
+    (places_at c.args.day c.args.days.now c.args.currencies.now c.args.amounts.now c.args.out_days.now c.args.out_currencies.now c.args.out_amounts.now c.min-n.result c.min-places.result c.in_ok-count.count (c.min-n.ensures ∙ ap (min (length c.args.days.now)) c.min.ensures) (c.min-places.ensures ∙ ap (min (length c.args.out_days.now)) c.min-2.ensures) c.in_ok-count.ensures l.i l.k l.out_days l.out_currencies l.out_amounts l.invariant c.loop-i-test.true c.if-day-days.true).2
 
-pub returns-in-Refused : goal.returns-in-Refused
-returns-in-Refused c =
-    let a = answered c.args.day c.args.days.now c.args.currencies.now c.args.amounts.now c.shortest_of-n.result c.shortest_of-places.result (length c.args.out_days.now) (length c.args.out_currencies.now) (length c.args.out_amounts.now) c.answer_plain.result c.shortest_of-n.ensures c.shortest_of-places.ensures c.answer_plain.ensures in
-    record {
-      answer = ap flows_outcome (sym c.in-Refused.is) ∙ a;
-      contents = all_kept _ c.args.out_days.now c.args.out_currencies.now c.args.out_amounts.now (ap is_refused (sym a) ∙ ap (λ (r : FlowsAnswer). is_refused (flows_outcome r)) c.in-Refused.is);
-    }
+pub loop-i-preserved : goal.loop-i-preserved
+loop-i-preserved c =
+    let l = c.loop-i in
+    elim c.if-day-days.branch [
+      | then-day-days w ↦ rw (w.out_days-is, w.out_currencies-is, w.out_amounts-is, w.k-is) (turn_yes c.args.day c.args.days.now c.args.currencies.now c.args.amounts.now c.args.out_days.now c.args.out_currencies.now c.args.out_amounts.now c.min-n.result c.min-places.result c.in_ok-count.count (c.min-n.ensures ∙ ap (min (length c.args.days.now)) c.min.ensures) (c.min-places.ensures ∙ ap (min (length c.args.out_days.now)) c.min-2.ensures) c.in_ok-count.ensures l.i l.k l.out_days l.out_currencies l.out_amounts l.invariant c.loop-i-test.true w.if-day-days.true)
+      | else-day-days w ↦ rw (w.out_days-is, w.out_currencies-is, w.out_amounts-is, w.k-is) (turn_no c.args.day c.args.days.now c.args.currencies.now c.args.amounts.now c.args.out_days.now c.args.out_currencies.now c.args.out_amounts.now c.min-n.result c.min-places.result c.in_ok-count.count (c.min-n.ensures ∙ ap (min (length c.args.days.now)) c.min.ensures) (c.min-places.ensures ∙ ap (min (length c.args.out_days.now)) c.min-2.ensures) c.in_ok-count.ensures l.i l.k l.out_days l.out_currencies l.out_amounts l.invariant c.loop-i-test.true w.if-day-days.false)
+    ]
+
+pub returns : goal.returns
+returns c =
+    let l = c.loop-i in
+    record { answer = told c.args.day c.args.days.now c.args.currencies.now c.args.amounts.now c.args.out_days.now c.args.out_currencies.now c.args.out_amounts.now c.min-n.result c.min-places.result c.in_ok-count.count (c.min-n.ensures ∙ ap (min (length c.args.days.now)) c.min.ensures) (c.min-places.ensures ∙ ap (min (length c.args.out_days.now)) c.min-2.ensures) c.in_ok-count.ensures; contents = turns_done c.args.day c.args.days.now c.args.currencies.now c.args.amounts.now c.args.out_days.now c.args.out_currencies.now c.args.out_amounts.now c.min-n.result c.min-places.result c.in_ok-count.count (c.min-n.ensures ∙ ap (min (length c.args.days.now)) c.min.ensures) (c.min-places.ensures ∙ ap (min (length c.args.out_days.now)) c.min-2.ensures) c.in_ok-count.ensures l.i l.k l.out_days l.out_currencies l.out_amounts l.invariant c.loop-i-test.false }

@@ -1,31 +1,43 @@
 -- `fixed_income::get_cash_flows_after` meets its contract: the first pass answers, and each turn
 -- that finds a later record writes it.
 use mathlib.Core.Path.{sym, ◌∙◌}
-use Rattle.fixed_income.proofs.records.Records.{Copying, copy_refused, k_inside, copying_yes, copying_no, copy_ends}
+use Rattle.outcome.proofs.Lists.{head_at, passed_yes, passed_no}
+use Rattle.calendar.proofs.dates.Compared.{before_by_less}
+use Rattle.cash_flow.proofs.flow.NoFlow.{no_flow}
+use Rattle.fixed_income.specs.records.After.{is_later}
+use Rattle.fixed_income.proofs.records.Later.{column_yes, column_no}
+use Rattle.fixed_income.proofs.records.Records.{inside, written}
 use Rattle.fixed_income.proofs.records.get_cash_flows_after.Goals as goal
-use Rattle.fixed_income.proofs.records.get_cash_flows_after.Goals.{then-is_later, else-is_later}
-
-pub returns-then-is_refused : goal.returns-then-is_refused
-returns-then-is_refused c = copy_refused c.args.date c.args.flows.now c.args.room.now c.answer_after-answer.result c.answer_after-answer.ensures (rw (sym c.is_refused.ensures ∙ c.if-is_refused.true) tt)
+use Rattle.fixed_income.proofs.records.get_cash_flows_after.Goals.{then-lt, else-lt}
 
 pub bounds-room-k : goal.bounds-room-k
 bounds-room-k c =
-    let t : Copying c.args.date c.args.flows.now c.args.room.now = record { i = c.loop-i.i; k = c.loop-i.k; out = c.loop-i.room; passed = c.loop-i.invariant.passed; column = c.loop-i.invariant.column } in
-    k_inside c.args.date c.args.flows.now c.args.room.now c.answer_after-answer.result c.answer_after-answer.ensures (rw (sym c.is_refused.ensures ∙ c.if-is_refused.false) tt) t c.loop-i-test.true (rw (sym c.is_later.ensures ∙ c.if-is_later.true) tt)
+    let l = c.loop-flow in
+    inside c.args.date c.args.flows.now c.args.room.now _ c.in_ok-count.ensures l.flow-index l.k l.room l.invariant.passed l.invariant.column _ c.loop-flow-test.true (head_at c.args.flows.now l.flow-index no_flow c.loop-flow-test.true) (sym (before_by_less _ _ _ c.lt.ensures) ∙ c.if-lt.true)
 
-pub loop-i-preserved : goal.loop-i-preserved
-loop-i-preserved c =
-    let t : Copying c.args.date c.args.flows.now c.args.room.now = record { i = c.loop-i.i; k = c.loop-i.k; out = c.loop-i.room; passed = c.loop-i.invariant.passed; column = c.loop-i.invariant.column } in
-    elim c.if-is_later.branch [
-      | then-is_later w ↦
-          let next : Copying c.args.date c.args.flows.now c.args.room.now = copying_yes c.args.date c.args.flows.now c.args.room.now c.answer_after-answer.result c.answer_after-answer.ensures (rw (sym c.is_refused.ensures ∙ c.if-is_refused.false) tt) t c.loop-i-test.true (rw (sym c.is_later.ensures ∙ w.if-is_later.true) tt) in
-          rw (w.k-is, w.room-is) (record { passed = next.passed; column = next.column })
-      | else-is_later w ↦
-          let next : Copying c.args.date c.args.flows.now c.args.room.now = copying_no c.args.date c.args.flows.now c.args.room.now c.answer_after-answer.result c.answer_after-answer.ensures (rw (sym c.is_refused.ensures ∙ c.if-is_refused.false) tt) t c.loop-i-test.true (rw (sym c.is_later.ensures ∙ w.if-is_later.false) tt) in
-          rw (w.k-is, w.room-is) (record { passed = next.passed; column = next.column })
+pub loop-flow-preserved : goal.loop-flow-preserved
+loop-flow-preserved c =
+    let l = c.loop-flow in
+    let at = head_at c.args.flows.now l.flow-index no_flow c.loop-flow-test.true in
+    let later = sym (before_by_less _ _ _ c.lt.ensures) in
+    elim c.if-lt.branch [
+      | then-lt w ↦
+          let h = later ∙ w.if-lt.true in
+          rw (w.k-is, w.room-is)
+          (record {
+            passed = passed_yes (is_later c.args.date) c.args.flows.now l.flow-index l.k _ c.loop-flow-test.true at l.invariant.passed h;
+            column = column_yes (λ f. f) (is_later c.args.date) c.args.flows.now c.args.room.now l.flow-index l.k _ at l.room l.invariant.column h (inside c.args.date c.args.flows.now c.args.room.now _ c.in_ok-count.ensures l.flow-index l.k l.room l.invariant.passed l.invariant.column _ c.loop-flow-test.true at h);
+          })
+      | else-lt w ↦
+          let h = later ∙ w.if-lt.false in
+          rw (w.k-is, w.room-is)
+          (record {
+            passed = passed_no (is_later c.args.date) c.args.flows.now l.flow-index l.k _ c.loop-flow-test.true at l.invariant.passed h;
+            column = column_no (λ f. f) (is_later c.args.date) c.args.flows.now c.args.room.now l.flow-index l.k _ at l.room l.invariant.column h;
+          })
     ]
 
 pub returns : goal.returns
 returns c =
-    let t : Copying c.args.date c.args.flows.now c.args.room.now = record { i = c.loop-i.i; k = c.loop-i.k; out = c.loop-i.room; passed = c.loop-i.invariant.passed; column = c.loop-i.invariant.column } in
-    copy_ends c.args.date c.args.flows.now c.args.room.now c.answer_after-answer.result c.answer_after-answer.ensures (rw (sym c.is_refused.ensures ∙ c.if-is_refused.false) tt) t c.loop-i-test.false
+    let l = c.loop-flow in
+    record { answer = c.in_ok-count.ensures; contents = written c.args.date c.args.flows.now c.args.room.now _ c.in_ok-count.ensures l.flow-index l.k l.room l.invariant.passed l.invariant.column c.loop-flow-test.false }

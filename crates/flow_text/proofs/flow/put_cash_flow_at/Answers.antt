@@ -1,16 +1,29 @@
--- `flow_text::put_cash_flow_at` meets its contract: the date, and the amount behind it.
+-- `flow_text::put_cash_flow_at` meets its contract: the date, a blank, and the amount behind it.
+use mathlib.Core.List.{◌∷◌}
 use native.Mathlib.Omega.{arith}
-use Rattle.number_text.proofs.write.Putting.{wrote_then}
+use Rattle.number_text.specs.write.Writing.{HasRoom}
+use Rattle.number_text.proofs.write.Putting.{puts_then, room_first, room_then}
+use Rattle.flow_text.specs.amount.AmountTexts.{amount_text}
+use Rattle.flow_text.specs.date.DateTexts.{date_text}
 use Rattle.flow_text.specs.flow.Texts.{flow_text}
-use Rattle.flow_text.proofs.flow.Lengths.{flow_parts}
 use Rattle.flow_text.proofs.flow.put_cash_flow_at.Goals as goal
+use Rattle.flow_text.proofs.flow.put_cash_flow_at.Goals.{After-put_date}
 
-pub put_date_at-next-requires : goal.put_date_at-next-requires
-put_date_at-next-requires c = record { t_value = c.requires.amount_value.1; t_in_bounds = omega (arith, c.requires.flow_in_bounds, flow_parts c.args.flow) }
+-- room for what stands behind the date
+rest : (c : After-put_date) → HasRoom c.put_date.new.w (32 ∷ amount_text c.args.flow.amount c.args.flow.currency)
+unfolding flow_text
+rest c = room_then _ _ _ _ c.put_date.ensures c.requires.room
 
-pub put_behind-requires : goal.put_behind-requires
-put_behind-requires c = record { x_value = c.requires.amount_value.0; currency_in_bounds = omega (arith, c.requires.flow_in_bounds, flow_parts c.args.flow, c.put_date_at-next.ensures.1, c.put_date_at-next.auto.out) }
+pub put_date-requires-clause-room : goal.put_date-requires-clause-room
+unfolding flow_text
+put_date-requires-clause-room c = room_first c.args.w.now (date_text c.args.flow.date) (32 ∷ amount_text c.args.flow.amount c.args.flow.currency) c.requires.room
+
+pub put-requires : goal.put-requires
+put-requires c = omega (arith, rest (goal.at.put-requires c).After-put_date)
+
+pub put_amount-requires-clause-room : goal.put_amount-requires-clause-room
+put_amount-requires-clause-room c = room_then _ _ _ _ c.put.ensures (rest (goal.at.put_amount-requires-clause-room c).After-put_date)
 
 pub returns : goal.returns
 unfolding flow_text
-returns c = wrote_then _ _ _ _ _ _ _ _ c.put_date_at-next.ensures c.put_behind.ensures (omega (arith, c.requires.flow_in_bounds, flow_parts c.args.flow))
+returns c = puts_then _ _ _ _ _ c.put_date.ensures (puts_then _ _ _ _ _ c.put.ensures c.put_amount.ensures (rest (goal.at.returns c).After-put_date)) c.requires.room

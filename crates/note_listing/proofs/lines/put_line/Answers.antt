@@ -1,35 +1,26 @@
 -- `note_listing::put_line` meets its contract: the flow, and the line feed behind it.
-use Prim.Native.Nat.{◌<◌}
-use mathlib.Core.Path.{sym, ap, subst, ◌∙◌}
+use mathlib.Core.Path.{sym}
+use mathlib.Core.List.{[], ◌∷◌}
 use native.Mathlib.Omega.{arith}
-use lib.ListN.{length}
-use Rattle.number_text.proofs.write.Writers.{wrote_is}
-use Rattle.number_text.proofs.write.Putting.{wrote_one, wrote_then}
-use Rattle.cash_flow.specs.declared.flow.CashFlow.{CashFlow}
-use Rattle.note_listing.specs.lines.Lines.{line_shown}
-use Rattle.note_listing.specs.lines.Inner.{flow_on, text_of}
-use Rattle.note_listing.proofs.lines.Lines.{Fitting, line_fitting}
+use lib.ListN.{length, length-append}
+use Rattle.flow_text.specs.flow.Texts.{flow_text}
+use Rattle.number_text.proofs.write.Putting.{puts_is, puts_then}
+use Rattle.note_listing.proofs.lines.Lines.{line_fitting}
 use Rattle.note_listing.proofs.lines.put_line.Goals as goal
 
-pub put_cash_flow_at-end-requires : goal.put_cash_flow_at-end-requires
-put_cash_flow_at-end-requires c =
-    let fits : Fitting c.flow_on.result (length c.args.out.now) c.args.at = subst (λ (f : CashFlow). Fitting f (length c.args.out.now) c.args.at) (sym c.flow_on.ensures) (line_fitting (flow_on c.args.currency c.args.day c.args.amount) (length c.args.out.now) c.args.at c.requires) in
-    let f = fits in
-    record { amount_value = f.shown; flow_in_bounds = omega (arith, f.room) }
+pub put_cash_flow_at-requires-clause-amount_finite : goal.put_cash_flow_at-requires-clause-amount_finite
+put_cash_flow_at-requires-clause-amount_finite c = (line_fitting _ _ _ c.requires).shown.0
 
-pub bounds-out-end : goal.bounds-out-end
-bounds-out-end c =
-    let fits : Fitting c.flow_on.result (length c.args.out.now) c.args.at = subst (λ (f : CashFlow). Fitting f (length c.args.out.now) c.args.at) (sym c.flow_on.ensures) (line_fitting (flow_on c.args.currency c.args.day c.args.amount) (length c.args.out.now) c.args.at c.requires) in
-    omega (arith, fits.room, c.put_cash_flow_at-end.ensures.1, c.put_cash_flow_at-end.auto.out)
+pub put_cash_flow_at-requires-clause-date_exists : goal.put_cash_flow_at-requires-clause-date_exists
+put_cash_flow_at-requires-clause-date_exists c = (line_fitting _ _ _ c.requires).shown.1
 
-pub overflow_add-result : goal.overflow_add-result
-overflow_add-result c =
-    let fits : Fitting c.flow_on.result (length c.args.out.now) c.args.at = subst (λ (f : CashFlow). Fitting f (length c.args.out.now) c.args.at) (sym c.flow_on.ensures) (line_fitting (flow_on c.args.currency c.args.day c.args.amount) (length c.args.out.now) c.args.at c.requires) in
-    omega (arith, fits.room, c.put_cash_flow_at-end.ensures.1)
+pub put_cash_flow_at-requires-clause-room : goal.put_cash_flow_at-requires-clause-room
+put_cash_flow_at-requires-clause-room c = omega (arith, (line_fitting c.args.flow (length c.args.w.now.out.now) c.args.w.now.at c.requires).room)
+
+pub put-requires : goal.put-requires
+put-requires c = omega (arith, (line_fitting c.args.flow (length c.args.w.now.out.now) c.args.w.now.at c.requires).room, c.put_cash_flow_at.ensures.at, c.put_cash_flow_at.ensures.size)
 
 pub returns : goal.returns
 returns c =
-    let fits : Fitting c.flow_on.result (length c.args.out.now) c.args.at = subst (λ (f : CashFlow). Fitting f (length c.args.out.now) c.args.at) (sym c.flow_on.ensures) (line_fitting (flow_on c.args.currency c.args.day c.args.amount) (length c.args.out.now) c.args.at c.requires) in
-    let room : c.put_cash_flow_at-end.result < length c.put_cash_flow_at-end.new.out = omega (arith, fits.room, c.put_cash_flow_at-end.ensures.1, c.put_cash_flow_at-end.auto.out) in
-    wrote_is _ _ _ _ _ _ (wrote_then _ _ _ _ _ _ _ _ c.put_cash_flow_at-end.ensures (wrote_one _ c.put_cash_flow_at-end.result 10 room) (omega (arith, fits.room)))
-    (sym fits.text ∙ ap (λ (f : CashFlow). text_of (line_shown f)) c.flow_on.ensures)
+    let f = line_fitting c.args.flow (length c.args.w.now.out.now) c.args.w.now.at c.requires in
+    puts_is _ _ _ _ (puts_then _ _ _ (flow_text c.args.flow) (10 ∷ []) c.put_cash_flow_at.ensures c.put.ensures (omega (arith, f.room, length-append (flow_text c.args.flow) (10 ∷ [])))) (sym f.text)

@@ -1,28 +1,25 @@
 -- `note_listing::put_lines` meets its contract: if the rest were written now, all would be.
-use native.Mathlib.Omega.{arith}
-use Rattle.note_listing.proofs.lines.Lines.{flows-next, flows-none, writing_start, writing_line, writing_more, writing_end, writing_flows}
+use borrow.Author.Rules.{rules}
+use Rattle.std.proofs.lemmas.Slice.Zip.{zip_turn, zip_end}
+use Rattle.note_listing.proofs.lines.Lines.{flows-next, flows-none, writing_line, writing_more, writing_end, writing_flows}
 use Rattle.note_listing.proofs.lines.put_lines.Goals as goal
 
-pub loop-i-init : goal.loop-i-init
-loop-i-init c = (omega arith, writing_start _ c.args.out.now c.requires.line_fits)
-
-pub put_line-at-requires : goal.put_line-at-requires
-put_line-at-requires c =
-    let l = c.loop-i in
+pub put_line-requires : goal.put_line-requires
+put_line-requires c =
+    let l = c.loop-day in
     let a = c.args in
-    writing_line (writing_flows (flows-next a.currency a.days.now a.amounts.now l.i (omega arith) (omega arith)) l.invariant.1)
+    let turn = zip_turn a.days.now a.amounts.now l.yielded c.into_iter-day-iterator.result l.day-iterator c.next.new.self c.next.result (search rules) (search rules) l.yielded_by (c.in-Some.day, c.in-Some.amount) c.in-Some.is c.next.ensures.steps in
+    rw c.flow_on.ensures (writing_line (writing_flows (flows-next a.currency a.days.now a.amounts.now l.yielded (c.in-Some.day, c.in-Some.amount) turn) l.invariant))
 
-pub loop-i-preserved : goal.loop-i-preserved
-loop-i-preserved c =
-    let l = c.loop-i in
+pub loop-day-preserved : goal.loop-day-preserved
+loop-day-preserved c =
+    let l = c.loop-day in
     let a = c.args in
-    (omega arith, writing_more (writing_flows (flows-next a.currency a.days.now a.amounts.now l.i (omega arith) (omega arith)) l.invariant.1) _ _ c.put_line-at.ensures)
-
-pub shape_of-out : goal.shape_of-out
-shape_of-out c = c.loop-i.invariant.1.same_length
+    let turn = zip_turn a.days.now a.amounts.now l.yielded c.into_iter-day-iterator.result l.day-iterator c.next.new.self c.next.result (search rules) (search rules) l.yielded_by (c.in-Some.day, c.in-Some.amount) c.in-Some.is c.next.ensures.steps in
+    writing_more (writing_flows (flows-next a.currency a.days.now a.amounts.now l.yielded (c.in-Some.day, c.in-Some.amount) turn) l.invariant) _ (rw c.flow_on.ensures at c.put_line.ensures)
 
 pub returns : goal.returns
 returns c =
-    let l = c.loop-i in
+    let l = c.loop-day in
     let a = c.args in
-    writing_end (writing_flows (flows-none a.currency a.days.now a.amounts.now l.i (omega arith)) l.invariant.1)
+    writing_end (writing_flows (flows-none a.currency a.days.now a.amounts.now _ (zip_end a.days.now a.amounts.now l.yielded c.into_iter-day-iterator.result l.day-iterator c.next.new.self c.next.result (search rules) (search rules) l.yielded_by c.in-None.is c.next.ensures.steps)) l.invariant)

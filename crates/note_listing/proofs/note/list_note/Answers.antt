@@ -1,24 +1,39 @@
--- `note_listing::list_note` meets its contract: the note is refused, or it is listed.
-use mathlib.Core.Path.{refl, sym}
-use lib.Seq.{length-take-le}
-use Rattle.note_listing.proofs.lines.Lines.{written_is, refusal_written}
-use Rattle.note_listing.proofs.note.Notes.{Read, was_read_so, was_refused_so}
+-- `note_listing::list_note` meets its contract: too few places, all lines, or a refusal.
+use Prim.Native.Nat.{ℕ}
+use mathlib.Core.Path.{◌≡◌, refl, sym, ap, ◌∙◌}
+use mathlib.Core.List.{List}
+use Rattle.std.proofs.Common.{rules}
+use lib.ListN.{length}
+use Rattle.outcome.specs.Outcome.{passed_as}
+use Rattle.number_text.specs.write.Writing.{put}
+use Rattle.note_listing.specs.lines.Lines.{answer_text}
+use Rattle.note_listing.specs.lines.Inner.{text_of}
+use Rattle.note_listing.specs.note.Listing.{listing}
+use Rattle.note_listing.proofs.lines.Lines.{all_written, none_written, lines_short, refusal_written}
 use Rattle.note_listing.proofs.note.list_note.Goals as goal
 
-pub slice_bounds-table-end : goal.slice_bounds-table-end
-slice_bounds-table-end c =
-    let read_at : Read c.args.s.now c.read_note.new.table c.in-Packed.p = was_read_so c.args.s.now _ _ refl _ _ c.in-Packed.is c.read_note.ensures in
-    read_at.there
+pub returns-then-out-list : goal.returns-then-out-list
+unfolding listing
+returns-then-out-list c =
+    let m = c.in-Ok.ensures in
+    let length-is = m.bytes ∙ ap (passed_as length) (sym m.lines) in
+    (none_written _ c.args.out.now _ length-is c.if-out-list.true, lines_short _ _ length-is m.short)
 
-pub slice_bounds-list_flows-end : goal.slice_bounds-list_flows-end
-slice_bounds-list_flows-end c =
-    let read_at : Read c.args.s.now c.read_note.new.table c.in-Packed.p = was_read_so c.args.s.now _ _ refl _ _ c.in-Packed.is c.read_note.ensures in
-    sym (length-take-le _ _ read_at.there)
+pub put_lines-requires : goal.put_lines-requires
+put_lines-requires c =
+    let m = c.in-Ok.ensures in
+    let fits = (all_written _ c.args.out.now _ (m.bytes ∙ ap (passed_as length) (sym m.lines)) c.if-out-list.false).0 in
+    rw (c.new-w.ensures.bytes, c.new-w.ensures.at, ← m.lines) fits
 
-pub returns-in-Packed : goal.returns-in-Packed
-returns-in-Packed c =
-    let read_at : Read c.args.s.now c.read_note.new.table c.in-Packed.p = was_read_so c.args.s.now _ _ refl _ _ c.in-Packed.is c.read_note.ensures in
-    written_is _ _ _ _ _ (sym read_at.text) c.list_flows.ensures
+pub returns-else-out-list : goal.returns-else-out-list
+unfolding listing
+returns-else-out-list c =
+    let m = c.in-Ok.ensures in
+    let length-is = m.bytes ∙ ap (passed_as length) (sym m.lines) in
+    let w = (all_written _ c.args.out.now _ length-is c.if-out-list.false).1 in
+    let placed : (d e t u : List ℕ) (at : ℕ) → d ≡ e → at ≡ 0 → t ≡ u → put d at t ≡ put e 0 u = λ d e t u at b a l. rw (b, a, l) refl in
+    ((w.0, search rules ∙ c.put_lines.ensures.bytes ∙ placed _ _ _ _ _ c.new-w.ensures.bytes c.new-w.ensures.at (ap text_of (sym m.lines)) ∙ w.1), lines_short _ _ length-is m.short)
 
-pub returns-in-Refused : goal.returns-in-Refused
-returns-in-Refused c = refusal_written _ _ _ _ _ (sym (was_refused_so c.args.s.now _ _ refl _ _ c.in-Refused.is c.read_note.ensures)) c.write_refusal.ensures
+pub returns-in-Err : goal.returns-in-Err
+unfolding listing
+returns-in-Err c = refusal_written _ _ _ _ _ (ap answer_text (sym c.in-Err.ensures)) c.write_refusal.ensures

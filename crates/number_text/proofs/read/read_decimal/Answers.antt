@@ -1,35 +1,34 @@
--- The loop keeps: k bytes are read, v is at most `most`, and reading the bytes left behind v comes
--- to the same as reading all. Each way out is one law of Decimals.
-use Prim.Native.Nat.{◌+◌, ◌-◌, ◌*◌}
-use mathlib.Core.Path.{◌≡◌}
+-- The loop keeps: v is at most `most`, and reading the bytes left behind v comes to the same as
+-- reading all. Each way out is one law of Decimals.
+use Prim.Native.Nat.{◌+◌, ◌*◌}
+use mathlib.Core.Path.{◌≡◌, sym, ◌∙◌}
 use native.Mathlib.Omega.{arith}
-use lib.ListN.{get_or, drop}
+use lib.ListN.{drop}
+use Rattle.std.proofs.Common.{rules, tests}
+use Rattle.outcome.specs.Refusals.{number_of}
 use Rattle.number_text.specs.read.Reading.{decimal_number}
-use Rattle.number_text.proofs.read.Decimals.{remaining, remaining_whole, decimal_empty, remaining_bad, remaining_more, remaining_past, remaining_end, digit_yes, digit_low, digit_high}
+use Rattle.number_text.proofs.read.Decimals.{remaining, remaining_whole, decimal_empty, remaining_bad, remaining_more, remaining_past, remaining_end, digit_is}
 use Rattle.number_text.proofs.read.read_decimal.Goals as goal
-use Rattle.number_text.proofs.read.read_decimal.Goals.{Else-b-gt57}
+use Rattle.number_text.proofs.read.read_decimal.Goals.{After-from}
 
 -- what is left after one digit more
-more : (c : Else-b-gt57) → remaining c.args.most c.args.refusal (c.loop-k.v * 10 + (get_or c.args.s.now c.loop-k.k 0 - 48)) (drop (c.loop-k.k + 1) c.args.s.now) ≡ decimal_number c.args.most c.args.refusal c.args.s.now
-more c = remaining_more _ _ _ c.loop-k.k c.args.s.now _ c.loop-k.invariant.2 (omega arith) (digit_yes _ c.if-b-lt48.false c.if-b-gt57.false)
+more : (c : After-from) → remaining c.args.most (number_of c.args.refusal) (c.loop-b.v * 10 + c.from.result) (drop (c.loop-b.b-index + 1) c.args.s.now) ≡ decimal_number c.args.most (number_of c.args.refusal) c.args.s.now
+more c = rw (c.from.ensures) (remaining_more _ _ _ c.loop-b.b-index c.args.s.now _ c.loop-b.invariant.1 (omega arith) (sym (digit_is _) ∙ sym c.is_ascii_digit.ensures.value ∙ c.if-not-is_ascii_digit.false))
 
-pub returns-then-s-eq0 : goal.returns-then-s-eq0
-returns-then-s-eq0 c = decimal_empty _ _ _ c.if-s-eq0.true
+pub returns-then-is_empty : goal.returns-then-is_empty
+returns-then-is_empty c = decimal_empty _ _ _ (search (rules, tests))
 
-pub loop-k-init : goal.loop-k-init
-loop-k-init c = (omega arith, omega arith, remaining_whole _ _ _ c.if-s-eq0.false)
+pub loop-b-init : goal.loop-b-init
+loop-b-init c = (omega arith, remaining_whole _ _ _ (search (rules, tests)))
 
-pub returns-then-b-lt48 : goal.returns-then-b-lt48
-returns-then-b-lt48 c = remaining_bad _ _ _ c.loop-k.k c.args.s.now _ c.loop-k.invariant.2 (omega arith) (digit_low _ c.if-b-lt48.true)
-
-pub returns-then-b-gt57 : goal.returns-then-b-gt57
-returns-then-b-gt57 c = remaining_bad _ _ _ c.loop-k.k c.args.s.now _ c.loop-k.invariant.2 (omega arith) (digit_high _ c.if-b-gt57.true)
+pub returns-then-not-is_ascii_digit : goal.returns-then-not-is_ascii_digit
+returns-then-not-is_ascii_digit c = remaining_bad _ _ _ c.loop-b.b-index c.args.s.now _ c.loop-b.invariant.1 (omega arith) (sym (digit_is _) ∙ sym c.is_ascii_digit.ensures.value ∙ c.if-not-is_ascii_digit.true)
 
 pub returns-then-limit-v : goal.returns-then-limit-v
-returns-then-limit-v c = remaining_past _ _ _ _ _ (more (goal.at.returns-then-limit-v c).Else-b-gt57) c.if-limit-v.true
+returns-then-limit-v c = remaining_past _ _ _ _ _ (more (goal.at.returns-then-limit-v c).After-from) (omega (arith, c.from-limit.ensures))
 
-pub loop-k-preserved : goal.loop-k-preserved
-loop-k-preserved c = (omega arith, c.if-limit-v.false, more (goal.at.loop-k-preserved c).Else-b-gt57)
+pub loop-b-preserved : goal.loop-b-preserved
+loop-b-preserved c = (omega (arith, c.from-limit.ensures), more (goal.at.loop-b-preserved c).After-from)
 
 pub returns : goal.returns
-returns c = remaining_end _ _ _ c.loop-k.k c.args.s.now _ c.loop-k.invariant.2 (omega arith) c.loop-k.invariant.1
+returns c = remaining_end _ _ _ c.loop-b.b-index c.args.s.now _ c.loop-b.invariant.1 (omega arith) c.loop-b.invariant.0

@@ -8,17 +8,17 @@ use Rattle.packed_read.proofs.note.digits_good.Goals as goal
 
 pub loop-k-init : goal.loop-k-init
 unfolding digits_good
-loop-k-init _ = (omega arith, refl)
+loop-k-init _ = refl
 
 pub loop-k-preserved : goal.loop-k-preserved
 loop-k-preserved c =
     let l = c.loop-k in
     let a = c.args in
-    (omega arith, good_more a.count a.digits l.k _ l.good _ (omega arith) l.invariant.1 c.first_places-places.ensures c.place_good-good.ensures)
+    good_more a.count a.digits l.k _ l.good _ (omega arith) l.invariant c.first_places.ensures c.place_good-good.ensures
 
 pub returns : goal.returns
 returns c =
     let l = c.loop-k in
     let a = c.args in
     let e : l.k ≡ 10 = omega arith in
-    subst (λ (k : ℕ). l.good ≡ digits_good a.count k (a.digits / 16 ^ (10 - k))) e l.invariant.1 ∙ ap (digits_good a.count 10) (places_all a.digits)
+    subst (λ (k : ℕ). l.good ≡ digits_good a.count k (a.digits / 16 ^ (10 - k))) e l.invariant ∙ ap (digits_good a.count 10) (places_all a.digits)

@@ -24,16 +24,11 @@ read_numbers-numbers-requires c =
     let whole : is_whole c.args.s.now ≡ true = sym c.is_whole.ensures ∙ c.if-not-is_whole.false in
     omega (arith, whole_long c.args.s.now whole)
 
-pub is_table_in-taken-requires : goal.is_table_in-taken-requires
-is_table_in-taken-requires c =
-    let whole : is_whole c.args.s.now ≡ true = sym c.is_whole.ensures ∙ c.if-not-is_whole.false in
-    (whole, c.table_count-n.ensures.0, c.requires)
-
 pub returns : goal.returns
 returns c =
     let whole : is_whole c.args.s.now ≡ true = sym c.is_whole.ensures ∙ c.if-not-is_whole.false in
     let s = c.args.s.now in
     let d = c.is_table_in-taken in (
-      c.note_from_numbers.ensures ∙ bytes_whole s _ _ whole c.read_numbers-numbers.ensures.0 d.ensures.0,
+      c.note_from_numbers.ensures ∙ bytes_whole s _ _ whole c.read_numbers-numbers.ensures d.ensures.0,
       λ p. subst (λ (k : ℕ). take k d.new.days ≡ days_from s 0 k) c.table_count-n.ensures.0 (d.ensures.1 (d.ensures.0 ∙ p.1)),
     )

@@ -10,6 +10,3 @@ pub overflow_cast-result : goal.overflow_cast-result
 overflow_cast-result c =
     let e = rw c.record_bits.ensures at c.read_field.ensures in
     record { fits = rw (e) (lt_of_lt_of_le (field_below c.args.s.now (day_place c.args.i) 22 (omega (arith, c.requires.1))) (pow_mono {i = 22} {j = 32} (omega arith))) }
-
-pub returns : goal.returns
-returns c = rw c.record_bits.ensures at c.read_field.ensures

@@ -6,7 +6,4 @@ use Rattle.packed_read.specs.table.Tables.{days_from}
 use Rattle.packed_read.proofs.table.read_days.Given as goal
 
 abbrev pub invariant-loop-i : goal.invariant-loop-i
-invariant-loop-i l = (l.i ≤ l.n) × (l.low ≤ 3652060) × (ascends_from l.low (days_from l.s l.i (l.n - l.i)) ≡ ascends_from 1 (days_from l.s 0 l.n)) × Filled (days_from l.s 0 l.n) l.initial.days l.i (days_from l.s l.i (l.n - l.i)) l.days
-
-abbrev pub decreases-loop-i : goal.decreases-loop-i
-decreases-loop-i l = l.n - l.i
+invariant-loop-i l = (l.low ≤ 3652060) × (ascends_from l.low (days_from l.s l.i (l.n - l.i)) ≡ ascends_from 1 (days_from l.s 0 l.n)) × Filled (days_from l.s 0 l.n) l.initial.days l.i (days_from l.s l.i (l.n - l.i)) l.days

@@ -7,25 +7,25 @@ use Rattle.packed_write.proofs.numbers.Codes.{places-none, places-more, places_s
 use Rattle.packed_write.proofs.numbers.digits_places.Goals as goal
 
 pub loop-k-init : goal.loop-k-init
-loop-k-init c = (omega arith, sym (places-none c.args.count (c.args.digits / 10 ^ (c.args.count - 0))))
+loop-k-init c = sym (places-none c.args.count (c.args.digits / 10 ^ (c.args.count - 0)))
 
 pub overflow_mul-places : goal.overflow_mul-places
-overflow_mul-places c = record { fits = omega (arith, places_small _ c.loop-k.k _ c.loop-k.places (omega arith) c.loop-k.invariant.1) }
+overflow_mul-places c = record { fits = omega (arith, places_small _ c.loop-k.k _ c.loop-k.places (omega arith) c.loop-k.invariant) }
 
 pub overflow_add-places : goal.overflow_add-places
 overflow_add-places c =
     let l = c.loop-k in
-    record { fits = omega (arith, places_small _ l.k _ l.places (omega arith) l.invariant.1, c.place_at.ensures.1) }
+    record { fits = omega (arith, places_small _ l.k _ l.places (omega arith) l.invariant, c.place_at.ensures.1) }
 
 pub loop-k-preserved : goal.loop-k-preserved
 loop-k-preserved c =
     let l = c.loop-k in
     let a = c.args in
-    (omega arith, places-more a.count a.digits l.k l.places _ l.invariant.1 c.place_at.ensures.0)
+    places-more a.count a.digits l.k l.places _ l.invariant c.place_at.ensures.0
 
 pub returns : goal.returns
 returns c =
     let l = c.loop-k in
     let a = c.args in
     let e : l.k ≡ 10 = omega arith in
-    subst (λ (k : ℕ). l.places ≡ digits_places a.count k (a.digits / 10 ^ (a.count - k))) e l.invariant.1 ∙ places_all a.count a.digits c.requires
+    subst (λ (k : ℕ). l.places ≡ digits_places a.count k (a.digits / 10 ^ (a.count - k))) e l.invariant ∙ places_all a.count a.digits c.requires

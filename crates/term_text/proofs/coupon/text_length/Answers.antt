@@ -4,10 +4,18 @@ use Rattle.term_text.proofs.coupon.Texts.{text_length, padded_most}
 use Rattle.term_text.proofs.coupon.text_length.Goals as goal
 
 pub overflow_add-result : goal.overflow_add-result
-overflow_add-result c = omega (arith, c.padded_length-day.ensures, padded_most c.args.c.day (omega arith))
+overflow_add-result c =
+    let day = rw (c.from.ensures) at c.padded_length.ensures in
+    record { fits = omega (arith, day, padded_most c.args.c.day (omega arith)) }
 
 pub overflow_add-result-2 : goal.overflow_add-result-2
-overflow_add-result-2 c = omega (arith, c.padded_length.ensures, c.padded_length-day.ensures, padded_most c.args.c.day (omega arith), padded_most c.args.c.month (omega arith))
+overflow_add-result-2 c =
+    let day = rw (c.from.ensures) at c.padded_length.ensures in
+    let month = rw (c.from-2.ensures) at c.padded_length-2.ensures in
+    record { fits = omega (arith, day, month, padded_most c.args.c.day (omega arith), padded_most c.args.c.month (omega arith)) }
 
 pub returns : goal.returns
-returns c = omega (arith, c.padded_length.ensures, c.padded_length-day.ensures, text_length c.args.c)
+returns c =
+    let day = rw (c.from.ensures) at c.padded_length.ensures in
+    let month = rw (c.from-2.ensures) at c.padded_length-2.ensures in
+    omega (arith, day, month, text_length c.args.c)

@@ -1,35 +1,34 @@
 -- `term_text::read_period` meets its contract: two bytes or more, the unit of the last, and the
 -- number before it.
-use Prim.Native.Nat.{◌-◌}
-use mathlib.Core.Path.{sym, ◌∙◌, ap}
+use mathlib.Core.Path.{ap}
 use native.Mathlib.Omega.{arith}
-use lib.Seq.{length-take-le}
-use lib.ListN.{length, take}
+use lib.ListN.{length}
 use borrow.Author.Tests.{le-leb, lt-leb}
-use Rattle.outcome.specs.Outcome.{Outcome, and_then}
-use Rattle.time_period.specs.steps.Periods.{unit_outcome}
+use lib.IntN.{ℤ}
+use mir.Facts.{to_z-of_z}
+use Rattle.std.proofs.Common.{rules}
+use Rattle.time_period.proofs.steps.Signs.{told}
+use Rattle.time_period.specs.declared.steps.TimePeriod.{TimePeriod}
+use Rattle.outcome.specs.Outcome.{Outcome, given}
+use Rattle.outcome.proofs.Refusals.{handed_on}
 use Rattle.term_text.specs.period.PeriodTexts.{number_part, period_read}
-use Rattle.time_period.specs.declared.steps.TimePeriodUnit.{TimePeriodUnit}
 use Rattle.term_text.proofs.period.read_period.Goals as goal
 
 pub returns-then-s-lt2 : goal.returns-then-s-lt2
 unfolding period_read
 returns-then-s-lt2 c = rw (lt-leb 2 (length c.args.s.now) c.if-s-lt2.true)
 
-pub slice_bounds-read_number-end : goal.slice_bounds-read_number-end
-slice_bounds-read_number-end _ = sym (length-take-le _ _ (omega arith))
-
-pub returns-in-Unit : goal.returns-in-Unit
+pub returns-in_err-unit : goal.returns-in_err-unit
 unfolding period_read
-returns-in-Unit c =
-    let s = c.args.s.now in
-    rw (le-leb 2 (length s) (omega arith))
-    (c.read_number.ensures
-    ∙ ap (λ (o : Outcome TimePeriodUnit). and_then o (number_part (take (length s - 1) s))) (ap unit_outcome (sym c.in-Unit.is) ∙ c.unit_of.ensures))
+returns-in_err-unit c = rw (le-leb 2 (length c.args.s.now) (omega arith)) (handed_on _ _ _ c.from_residual.ensures.1 c.in_err-unit.ensures)
 
-pub returns-in-Refused : goal.returns-in-Refused
-unfolding period_read
-returns-in-Refused c =
-    let s = c.args.s.now in
-    rw (le-leb 2 (length s) (omega arith))
-    (ap (λ (o : Outcome TimePeriodUnit). and_then o (number_part (take (length s - 1) s))) (ap unit_outcome (sym c.in-Refused.is) ∙ c.unit_of.ensures))
+pub returns-in_err-num : goal.returns-in_err-num
+unfolding period_read number_part
+returns-in_err-num c =
+    rw (le-leb 2 (length c.args.s.now) (omega arith), ← c.in_ok-unit.ensures) (handed_on _ _ _ c.from_residual-in_err-num.ensures.1 c.in_err-num.ensures)
+
+pub returns : goal.returns
+unfolding period_read number_part
+returns c =
+    rw (le-leb 2 (length c.args.s.now) (omega arith), ← c.in_ok-unit.ensures, ← c.in_ok-num.ensures)
+    (ap {B = Outcome TimePeriod} (λ (z : ℤ). given (record { num = z; unit = c.in_ok-unit.unit })) (to_z-of_z (told c.in_ok-num.num (search rules))))

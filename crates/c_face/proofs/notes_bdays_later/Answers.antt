@@ -1,5 +1,0 @@
--- `c_face::notes_bdays_later` meets its contract: what the entry point answers is handed over.
-use Rattle.c_face.proofs.notes_bdays_later.Goals as goal
-
-pub returns : goal.returns
-returns c = rw (← c.bdays_later.ensures) c.hand_day.ensures

@@ -34,7 +34,7 @@ def entry_points():
             for name in re.findall(r"\w+", one or several):
                 if name[0].islower():
                     yield crate + "::" + name
-        for comment, name in re.findall(r"((?:^//.*\n)*)^pub fn (\w+)", text, re.M):
+        for comment, name in re.findall(r"((?:^//.*\n)*)(?:^#\[.*\n)*^pub fn (\w+)", text, re.M):
             if "// Inner:" not in comment:
                 yield crate + "::" + name
 

@@ -1,5 +1,7 @@
 // The C face: the entry points over numbers, bytes and lent slices. Each returns the refusal's
-// number, or 0 for an answer, and only then writes what is lent.
+// number, or 0 for an answer, and only then writes what is lent. A note is its nineteen numbers,
+// since a struct would be one more layout to believe. What writes lent bytes stands in a `match` and
+// not in a closure, behind which a proof knows nothing of them.
 #![tactic(auto)]
 
 ghost use Rattle.std.specs.Prelude.{◌≡◌, true, length};

@@ -13,9 +13,8 @@ pub struct Writer<'a> {
     pub at: usize,
 }
 
-// Inner: each method that writes asks for room.
 impl<'a> Writer<'a> {
-    // It begins at the first byte.
+    // Inner: begins at the first byte; asks for nothing.
     pub fn new(out: &'a mut [u8]) -> Writer<'a>
         ensures same_bytes { result.out.ghost_name ≡ out.entry.ghost_name }
         ensures bytes { result.out.now ≡ out.old }
@@ -24,6 +23,7 @@ impl<'a> Writer<'a> {
         Writer { out, at: 0 }
     }
 
+    // Inner: one byte; asks for room, as all below.
     pub fn put(&mut self, b: u8)
         requires { HasRoom self.old (b ∷ []) }
         ensures { Puts self.old self.new (b ∷ []) }
@@ -32,7 +32,7 @@ impl<'a> Writer<'a> {
         self.at += 1;
     }
 
-    // One byte, `count` times.
+    // Inner: one byte, `count` times.
     pub fn put_run(&mut self, b: u8, count: usize)
         requires { HasRoom self.old (replicate count b) }
         ensures { Puts self.old self.new (replicate count b) }
@@ -41,6 +41,7 @@ impl<'a> Writer<'a> {
         self.at += count;
     }
 
+    // Inner: some bytes.
     pub fn put_bytes(&mut self, s: &[u8])
         requires { HasRoom self.old s.now }
         ensures { Puts self.old self.new s.now }
@@ -49,7 +50,7 @@ impl<'a> Writer<'a> {
         self.at += s.len();
     }
 
-    // The last `count` decimal digits of n.
+    // Inner: the last `count` decimal digits of n.
     #[tactic(auto, using(crate::proofs::length::Digits::length_digits))]
     pub fn put_digits(&mut self, n: u64, count: usize)
         requires { HasRoom self.old (digits count n) }
@@ -63,7 +64,7 @@ impl<'a> Writer<'a> {
         self.at += count;
     }
 
-    // A `-`, where the number is negative.
+    // Inner: a `-`, where the number is negative.
     pub fn put_sign(&mut self, negative: bool)
         requires { HasRoom self.old (sign_text negative) }
         ensures { Puts self.old self.new (sign_text negative) }
@@ -73,7 +74,7 @@ impl<'a> Writer<'a> {
         }
     }
 
-    // The shortest decimal of n.
+    // Inner: the shortest decimal of n.
     #[tactic(auto, using(crate::proofs::length::Digits::length_digits, crate::proofs::write::Writers::decimal_digits))]
     pub fn put_decimal(&mut self, n: u64)
         requires { HasRoom self.old (decimal_text n) }
@@ -82,7 +83,7 @@ impl<'a> Writer<'a> {
         self.put_digits(n, decimal_length(n));
     }
 
-    // The number n with leading zeros to at least `width` digits.
+    // Inner: the number n with leading zeros to at least `width` digits.
     #[tactic(auto, using(crate::proofs::length::Digits::length_digits, crate::proofs::write::Writers::padded_digits))]
     pub fn put_padded(&mut self, n: u64, width: usize)
         requires { HasRoom self.old (padded_text width n) }
@@ -91,7 +92,7 @@ impl<'a> Writer<'a> {
         self.put_digits(n, padded_length(n, width));
     }
 
-    // The sign and the shortest decimal of n.
+    // Inner: the sign and the shortest decimal of n.
     pub fn put_signed(&mut self, n: i32)
         requires { HasRoom self.old (signed_text n) }
         ensures { Puts self.old self.new (signed_text n) }

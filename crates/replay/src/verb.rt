@@ -87,6 +87,7 @@ pub(crate) enum Verb {
     AmountLength,
 }
 
+// Told twice, since no number is cast to an enum.
 const FROM_1_ON: [Verb; 83] = [
     Verb::IsLeap,
     Verb::LengthOfMonth,

@@ -9,7 +9,7 @@ use calendar::LAST_DAY;
 pub const MOST_HOLIDAYS: usize = 4096;
 
 // Fewer holidays than this are judged by a loop of their own.
-pub(crate) const SHORT: usize = 32;
+const SHORT: usize = 32;
 
 // Holidays that ascend, however many: what a table is once it is judged.
 #[derive(Clone, Copy)]
@@ -67,7 +67,7 @@ fn is_ascending(table: &[u32]) -> bool
 
 // Of a short table, judged by the way. What is wrong and the holidays before a day, which are its
 // place, are counted: the compiler then takes eight days at once, and 32 where it is a yes or no.
-pub(crate) fn judge_short(table: &[u32], n: u32) -> Option<usize>
+fn judge_short(table: &[u32], n: u32) -> Option<usize>
     requires { length table.now ≤ 32 }
     ensures { Placed table.now n result }
 {
@@ -98,4 +98,16 @@ pub fn is_table(table: &[u32]) -> bool
         return judge_short(table, 0).is_some();
     }
     table.len() <= MOST_HOLIDAYS && is_ascending(table)
+}
+
+// Inner: the place of the first holiday not before a day, or that the table is not taken.
+#[inline(always)]
+pub fn place_in(table: &[u32], n: u32) -> Option<usize>
+    ensures { Placed table.now n result }
+{
+    // A short table is judged and searched in one pass.
+    if table.len() < SHORT {
+        return judge_short(table, n);
+    }
+    Some(Holidays::judged(table)?.place_of(n))
 }

@@ -2,11 +2,11 @@
 // `cal_calc`. The weekend is Saturday and Sunday.
 ghost use Rattle.std.specs.Prelude.{◌≡◌, true, false, ◌∷◌, ◌+◌, ◌≤◌, length, get_or, MatchOption};
 ghost use Rattle.outcome.specs.Refusals.{outcome_of};
-ghost use Rattle.business_days.specs.table.Table.{is_table};
+ghost use Rattle.business_days.specs.table.Table.{ascending, is_table};
 ghost use Rattle.business_days.specs.table.Business.{is_weekend, is_business, next_from, prev_from, later_from, earlier_from};
 ghost use Rattle.business_days.specs.table.Search.{IsLowerBound};
 
-use crate::table::{Holidays, SHORT, judge_short};
+use crate::table::{Holidays, place_in};
 use calendar::{Day, LAST_DAY};
 use outcome::Refusal;
 
@@ -42,6 +42,24 @@ fn holiday_before(table: &[u32], i: usize) -> u32
     ensures { result ≡ get_or (0 ∷ table.now) i 0 }
 {
     if 0 < i { table[i - 1] } else { 0 }
+}
+
+// Inner: the first place not before a day, from one near it; asks for ascending holidays.
+#[inline(always)]
+pub fn lower_bound_from(table: &[u32], n: u32, hint: usize) -> usize
+    requires { ascending table.now ≡ true }
+    ensures { IsLowerBound table.now n result }
+{
+    // A rollout's days come in order, so that it searches once and then passes its holidays.
+    if table.len() < hint || n <= holiday_before(table, hint) {
+        return Holidays { days: table }.place_of(n);
+    }
+    // `position` of an iterator is slower: six instructions for each holiday in place of five.
+    let mut place = hint;
+    while place < table.len() && table[place] < n {
+        place += 1;
+    }
+    place
 }
 
 // Day by day, with the next holiday alongside: over the part of the table that begins with the
@@ -115,16 +133,12 @@ impl<'a> Spot<'a> {
         requires { (1 ≤ day) × (day ≤ 3652059) }
         ensures { MatchOption result (is_table table.now ≡ false) (λ s. (is_table table.now ≡ true) × (s.day ≡ day) × (s.holidays.days.now ≡ table.now)) }
     {
-        // A short table is judged and searched in one pass.
-        if table.len() < SHORT {
-            let place = judge_short(table, day)?;
-            return Some(Spot {
-                day,
-                holidays: Holidays { days: table },
-                place,
-            });
-        }
-        Some(Spot::new(day, Holidays::judged(table)?))
+        let place = place_in(table, day)?;
+        Some(Spot {
+            day,
+            holidays: Holidays { days: table },
+            place,
+        })
     }
 
     // Inner: a day's spot; asks for a day that exists.
@@ -146,16 +160,7 @@ impl<'a> Spot<'a> {
         requires { (1 ≤ day) × (day ≤ 3652059) }
         ensures { (result.day ≡ day) × (result.holidays.days.now ≡ holidays.entry.days.now) }
     {
-        // A rollout's days come in order, so that it searches once and then passes its holidays.
-        let days = holidays.days;
-        if days.len() < hint || day <= holiday_before(days, hint) {
-            return Spot::new(day, holidays);
-        }
-        // `position` of an iterator is slower: six instructions for each holiday in place of five.
-        let mut place = hint;
-        while place < days.len() && days[place] < day {
-            place += 1;
-        }
+        let place = lower_bound_from(holidays.days, day, hint);
         Spot {
             day,
             holidays,

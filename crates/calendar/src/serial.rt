@@ -21,10 +21,11 @@ pub fn day_of(t: Date) -> Result<Day, Refusal>
 pub fn date_of(d: Day) -> Result<Date, Refusal>
     ensures { DateOfPromise d result }
 {
-    if !is_day(d) {
-        return Err(Refusal::InvalidDate);
+    if is_day(d) {
+        Ok(date_of_day(d.0))
+    } else {
+        Err(Refusal::InvalidDate)
     }
-    Ok(date_of_day(d.0))
 }
 
 // The weekday of a serial day, Monday 1 to Sunday 7; refused 1.

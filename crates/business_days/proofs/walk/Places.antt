@@ -6,7 +6,8 @@ use mathlib.Core.Bool.{true, false}
 use mathlib.Core.List.{List, ◌∷◌}
 use native.Mathlib.Omega.{arith}
 use native.Mathlib.Decide.{dec_lt}
-use lib.ListN.{length, get_or, get_or-eq_default}
+use lib.ListN.{length, get_or, take, drop, length-drop, get_or-eq_default}
+use lib.Seq.{get_or-take, get_or-drop, length-take-le}
 use Rattle.business_days.specs.table.Table.{ascending, is_listed}
 use Rattle.business_days.specs.table.Search.{IsLowerBound}
 use Rattle.business_days.proofs.table.Places.{up_to, Bracket, bracket_whole, bracket_up}
@@ -21,6 +22,25 @@ placed t n i d e = by (dec_lt i (length t))
     by (no g) = absurd (omega (arith, get_or-eq_default t 0 {n = i} (omega arith)))
 
 module _ {t : List ℕ} {n i : ℕ} (s : IsLowerBound t n i) where
+  -- the part from the place on, and the part up to it
+  pub part_after : IsLowerBound (drop i t) n 0
+  part_after = record {
+    sorted = λ p q l h. rw (get_or-drop i t p 0, get_or-drop i t q 0) (s.sorted (i + p) (i + q) (omega arith) (omega (arith, length-drop i t)));
+    within = zero-le;
+    before = λ k l. absurd (omega arith);
+    after = λ k l h. rw (get_or-drop i t k 0) (s.after (i + k) (omega arith) (omega (arith, length-drop i t)));
+  }
+
+  pub part_before_lem : IsLowerBound (take i t) n (length (take i t))
+  part_before_lem =
+      let e : length (take i t) ≡ i = length-take-le i t s.within in
+      record {
+        sorted = λ p q l h. rw (get_or-take i t p 0 (omega arith), get_or-take i t q 0 (omega arith)) (s.sorted p q l (omega (arith, s.within)));
+        within = omega arith;
+        before = λ k l. rw (get_or-take i t k 0 (omega arith)) (s.before k (omega arith));
+        after = λ k l h. absurd (omega arith);
+      }
+
   -- a day of which the table lists none between it and the next place is not listed
   pub skipped : (m : ℕ) → m ≡ n + 1 → IsLowerBound t m i → is_listed n t ≡ false
   skipped m e u = unlisted n t (λ k l i. by k l i (dec_lt k _))

@@ -1,4 +1,4 @@
--- `Spot::judged` meets its contract: a short table is judged and searched at once.
+-- `Spot::judged` meets its contract: a table that is taken ascends.
 use Rattle.business_days.proofs.table.Table.{table_ascends}
 use Rattle.business_days.proofs.walk.Spot.judged.Goals as goal
 

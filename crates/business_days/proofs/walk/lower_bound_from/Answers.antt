@@ -9,4 +9,4 @@ pub loop-place-init : goal.loop-place-init
 loop-place-init c = bracket_near _ _ _ c.requires (omega arith) (omega (arith, c.holiday_before.ensures))
 
 pub returns-else-table-place : goal.returns-else-table-place
-returns-else-table-place c = bracket_ends (bracket_down c.loop-place.invariant _ (omega arith) c.loop-place-test.true c.if-table-place.false) (omega arith)
+returns-else-table-place c = bracket_ends (bracket_down c.loop-place.invariant _ (omega arith) c.loop-place-test.true (omega (arith, c.if-table-place.false))) (omega arith)

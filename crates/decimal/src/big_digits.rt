@@ -34,10 +34,12 @@ pub fn put_scaled(n: u64, twos: usize, out: &mut [u8])
 {
     let count = out.len();
     Writer::new(out).put_digits(n, count);
-    for _ in 0..twos / TWOS_AT_ONCE {
+    // The last multiplication is by 1 only where there are no factors two at all.
+    let whole = twos.saturating_sub(1) / TWOS_AT_ONCE;
+    for _ in 0..whole {
         multiply(power_of_two(TWOS_AT_ONCE), out);
     }
-    multiply(power_of_two(twos % TWOS_AT_ONCE), out);
+    multiply(power_of_two(twos - whole * TWOS_AT_ONCE), out);
 }
 
 // How many bytes `0` stand in front of any other byte.

@@ -11,6 +11,9 @@ use outcome::Refusal;
 // Every date of the calendar takes as many bytes.
 pub(crate) const DATE_LENGTH: usize = 10;
 
+// It stands between the parts of a date.
+const HYPHEN: u8 = b'-';
+
 // Inner: a date as yyyy-mm-dd; asks for a date that exists and room.
 #[tactic(auto, using(number_text::proofs::length::Digits::length_digits, crate::proofs::date::Dates::date_long))]
 pub(crate) fn put_date(t: Date, w: &mut Writer)
@@ -19,9 +22,9 @@ pub(crate) fn put_date(t: Date, w: &mut Writer)
     ensures { Puts w.old w.new (date_text t) }
 {
     w.put_digits(u64::from(t.year), 4);
-    w.put(b'-');
+    w.put(HYPHEN);
     w.put_digits(u64::from(t.month), 2);
-    w.put(b'-');
+    w.put(HYPHEN);
     w.put_digits(u64::from(t.day), 2);
 }
 

@@ -54,6 +54,6 @@ pub fn list_note(s: &[u8], out: &mut [u8]) -> Result<usize, Refusal>
             Ok(list.bytes)
         }
         // It is written, and not handed on, so that no `?` fits.
-        Err(refusal) => flow_text::write_refusal(refusal, out),
+        Err(refusal) => flow_text::write_refusal(refusal.number(), out),
     }
 }

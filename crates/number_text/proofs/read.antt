@@ -1,4 +1,5 @@
 pub mod Decimals
+pub mod Numberings
 pub mod Signs
 pub mod OneOutcome
 pub mod Examples

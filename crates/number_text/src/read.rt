@@ -1,14 +1,11 @@
 // Numbers out of text, as Rust's `parse` of integers, over bytes.
 ghost use Rattle.std.specs.Prelude.{◌≡◌, ◌≤◌, pos, neg_ℤ};
-ghost use Rattle.outcome.specs.Refusals.{number_of};
-ghost use Rattle.number_text.specs.read.Reading.{after_plus, ReadsDecimal, ReadsUnsigned, ReadsSigned};
-
-use outcome::Refusal;
+ghost use Rattle.number_text.specs.read.Reading.{after_plus, TellsDecimal, TellsUnsigned, TellsSigned};
 
 // Inner: the number of a decimal without a sign, at most `most`; asks for nothing; the caller names
-// its refusal.
-pub fn read_decimal(s: &[u8], most: u32, refusal: Refusal) -> Result<u32, Refusal>
-    ensures { ReadsDecimal most (number_of refusal) s.now result }
+// its refusal, of any type.
+pub fn read_decimal<E: Copy>(s: &[u8], most: u32, refusal: E) -> Result<u32, E>
+    ensures { TellsDecimal most refusal s.now result }
 {
     if s.is_empty() {
         return Err(refusal);
@@ -37,8 +34,8 @@ fn after_plus(s: &[u8]) -> &[u8]
 
 // Inner: the number of a decimal of 32 bits, `+` allowed; asks for nothing; the caller names its
 // refusal.
-pub fn read_u32(s: &[u8], refusal: Refusal) -> Result<u32, Refusal>
-    ensures { ReadsUnsigned (number_of refusal) s.now result }
+pub fn read_u32<E: Copy>(s: &[u8], refusal: E) -> Result<u32, E>
+    ensures { TellsUnsigned refusal s.now result }
 {
     read_decimal(after_plus(s), u32::MAX, refusal)
 }
@@ -52,8 +49,8 @@ fn negated(v: u32) -> i32
 
 // Inner: the number of a signed decimal of 32 bits, `-` and `+` allowed; asks for nothing; the
 // caller names its refusal.
-pub fn read_i32(s: &[u8], refusal: Refusal) -> Result<i32, Refusal>
-    ensures { ReadsSigned (number_of refusal) s.now result }
+pub fn read_i32<E: Copy>(s: &[u8], refusal: E) -> Result<i32, E>
+    ensures { TellsSigned refusal s.now result }
 {
     if let Some(rest) = s.strip_prefix(b"-") {
         return Ok(negated(read_decimal(rest, 1 << 31, refusal)?));

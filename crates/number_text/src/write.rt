@@ -46,7 +46,12 @@ impl<'a> Writer<'a> {
         requires { HasRoom self.old s.now }
         ensures { Puts self.old self.new s.now }
     {
-        self.out[self.at..self.at + s.len()].copy_from_slice(s);
+        let place = &mut self.out[self.at..self.at + s.len()];
+        // Byte by byte: LLVM calls `memmove` for a copy whose two places it cannot tell apart, and
+        // the archive for C asks for none.
+        for i in (0..s.len()).rev() {
+            place[i] = s[i];
+        }
         self.at += s.len();
     }
 
@@ -126,10 +131,11 @@ pub fn write_padded(n: u32, width: usize, out: &mut [u8]) -> Result<usize, Refus
     ensures { Written out.old out.new (padded_text width n) (outcome_of result) }
 {
     let n = u64::from(n);
-    if out.len() < padded_length(n, width) {
+    let k = padded_length(n, width);
+    if out.len() < k {
         return Err(Refusal::TooFewPlaces);
     }
     let mut w = Writer::new(out);
-    w.put_padded(n, width);
+    w.put_digits(n, k);
     Ok(w.at)
 }

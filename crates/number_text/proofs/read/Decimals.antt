@@ -12,11 +12,11 @@ use mathlib.Core.List.{List, [], ◌∷◌}
 use native.Mathlib.Omega.{arith}
 use lib.Dec.{leb, eqb}
 use lib.ListN.{length, get_or, take, drop, drop_of_length-le}
-use lib.IntN.{pos, neg_ℤ}
-use borrow.Author.Tests.{le-leb, lt-leb, leb-true}
+use lib.IntN.{ℤ, pos, neg_ℤ}
+use borrow.Author.Tests.{le-leb, lt-leb, leb-true, eq-eqb, ne_eqb}
 use Rattle.outcome.specs.Lists.{all_of}
 use Rattle.outcome.specs.Outcome.{Outcome, given, refused, unless, and_then, both, Numbered}
-use Rattle.outcome.proofs.Lists.{head_at}
+use Rattle.outcome.proofs.Lists.{head_at, part_from}
 use Rattle.outcome.proofs.Numbers.{between}
 use Rattle.outcome.proofs.Outcomes.{given_injective, unless-given, unless_numbered, then_numbered, pick_numbered}
 use Rattle.number_text.specs.read.Reading.{is_digit, all_digits, is_decimal, continued, decimal_value, decimal_number, begins, after_plus, unsigned_number, below_zero, from_zero, signed_number}
@@ -123,6 +123,51 @@ minus_read n s t h e = rw (← begins-taken 45 s, h, e)
 pub plain_read : (n : ℕ) (s t : List ℕ) → pointwise eqb (take 1 s) (45 ∷ []) ≡ false → t ≡ after_plus s → and_then (decimal_number 2147483647 n t) (λ v. given (pos v)) ≡ signed_number n s
 unfolding signed_number from_zero
 plain_read n s t h e = rw (← begins-taken 45 s, h, e)
+
+-- ---- what stands first, of a text and its first byte
+
+pub begins-first : (b : ℕ) (s : List ℕ) → (length s ≡ 0 → ⊥) → begins b s ≡ eqb (get_or s 0 0) b
+unfolding begins
+begins-first b [] h = absurd (h refl)
+begins-first b (c ∷ s) h = refl
+
+-- ---- the sign cut off, of a text and its first byte
+
+pub unsigned_empty : (n : ℕ) (s : List ℕ) → length s ≡ 0 → refused n ≡ unsigned_number n s
+unfolding unsigned_number after_plus begins
+unsigned_empty n [] h = decimal_empty 4294967295 n [] refl
+unsigned_empty n (b ∷ s) h = absurd (omega arith)
+
+pub after_plus_lem : (s : List ℕ) → (length s ≡ 0 → ⊥) → get_or s 0 0 ≡ 43 → after_plus s ≡ drop 1 s
+unfolding after_plus
+after_plus_lem s h e = rw (begins-first 43 s h, eq-eqb (get_or s 0 0) 43 e)
+
+pub no_plus : (s : List ℕ) → (length s ≡ 0 → ⊥) → (get_or s 0 0 ≡ 43 → ⊥) → after_plus s ≡ s
+unfolding after_plus
+no_plus s h e = rw (begins-first 43 s h, ne_eqb (get_or s 0 0) 43 e)
+
+pub signed_empty : (n : ℕ) (s : List ℕ) → length s ≡ 0 → refused n ≡ signed_number n s
+unfolding signed_number from_zero after_plus begins
+signed_empty n [] h = rw (← decimal_empty 2147483647 n [] refl)
+signed_empty n (b ∷ s) h = absurd (omega arith)
+
+pub signed_minus : (n : ℕ) (s : List ℕ) (o : Outcome ℤ) → o ≡ below_zero n (drop 1 s) → (length s ≡ 0 → ⊥) → get_or s 0 0 ≡ 45 → o ≡ signed_number n s
+unfolding signed_number
+signed_minus n s o e h f = rw (begins-first 45 s h, eq-eqb (get_or s 0 0) 45 f) e
+
+pub signed_else : (n : ℕ) (s t : List ℕ) (o : Outcome ℤ) → o ≡ from_zero n t → after_plus s ≡ t → (length s ≡ 0 → ⊥) → (get_or s 0 0 ≡ 45 → ⊥) → o ≡ signed_number n s
+unfolding signed_number
+signed_else n s t o e g h f = rw (begins-first 45 s h, ne_eqb (get_or s 0 0) 45 f, g) e
+
+-- the same of the part that a read takes, from the first place to the end
+pub signed_minus_part : (n : ℕ) (s : List ℕ) (o : Outcome ℤ) → o ≡ below_zero n (take (length s - 1) (drop 1 s)) → (length s ≡ 0 → ⊥) → get_or s 0 0 ≡ 45 → o ≡ signed_number n s
+signed_minus_part n s o e h f = signed_minus n s o (e ∙ rw (part_from s 1)) h f
+
+pub signed_plus_part : (n : ℕ) (s : List ℕ) (o : Outcome ℤ) → o ≡ from_zero n (take (length s - 1) (drop 1 s)) → (length s ≡ 0 → ⊥) → (get_or s 0 0 ≡ 45 → ⊥) → get_or s 0 0 ≡ 43 → o ≡ signed_number n s
+signed_plus_part n s o e h f g = signed_else n s _ o e (after_plus_lem s h g ∙ sym (part_from s 1)) h f
+
+pub signed_plain : (n : ℕ) (s : List ℕ) (o : Outcome ℤ) → o ≡ from_zero n s → (length s ≡ 0 → ⊥) → (get_or s 0 0 ≡ 45 → ⊥) → (get_or s 0 0 ≡ 43 → ⊥) → o ≡ signed_number n s
+signed_plain n s o e h f g = signed_else n s s o e (no_plus s h g) h f
 
 -- ---- a refusal's number is the one that the caller names
 

@@ -6,11 +6,11 @@ use mathlib.Core.List.{List, [], ◌∷◌, ◌++◌, append_assoc}
 use native.Mathlib.Nat.{zero-add, add-zero}
 use native.Mathlib.Numerals.{add-one}
 use native.Mathlib.Omega.{arith}
-use lib.ListN.{length, take, drop, set, length-append, length-take, length-drop, take-append-drop}
+use lib.ListN.{length, get_or, take, drop, set, length-append, length-take, length-drop, take-append-drop}
 use lib.Seq.{set_split, drop-cons, take-set-le, drop-set-lt, get_or-set_same, take_at, drop_at, drop-drop, length-take-le, lt-length-set}
 use borrow.Rule.Slice.PartMut.{put_mid}
 use Rattle.number_text.specs.declared.write.Writer.{Writer}
-use Rattle.number_text.specs.write.Writing.{digits, put, HasRoom, Puts}
+use Rattle.number_text.specs.write.Writing.{digits, put, Wrote, HasRoom, Puts}
 use Rattle.number_text.proofs.length.Digits.{length_digits}
 
 -- ---- what `put` is
@@ -99,6 +99,17 @@ puts_is v w xs ys p e = rw (← e) p
 pub puts_none : (v : Writer) → Puts v v []
 puts_none v = record { lent = refl; size = refl; at = omega arith; bytes = sym (put-none v.out.now v.at) }
 
+-- two writers, one after the other
+pub wrote_then : (d e f : List ℕ) (at b r : ℕ) (xs ys : List ℕ) → Wrote d e at xs b → Wrote e f b ys r → at + length xs + length ys ≤ length d → Wrote d f at (xs ++ ys) r
+wrote_then d e f at b r xs ys p q h = (put_then d e f at b xs ys p.0 p.1 q.0 h, omega (arith, p.1, q.1, length-append xs ys))
+
+-- a byte stored, and nothing written
+pub wrote_one : (d : List ℕ) (at v : ℕ) → at < length d → Wrote d (set d at v) at (v ∷ []) (at + 1)
+wrote_one d at v h = (put_one d at v h, refl)
+
+pub wrote_none : (d : List ℕ) (at : ℕ) → Wrote d d at [] at
+wrote_none d at = (sym (put-none d at), sym (add-zero at))
+
 -- ---- from the end to the start: to store the last byte first and then write the others is to
 -- write them all
 
@@ -120,6 +131,16 @@ digits_less o at zero n z e l h = absurd (omega arith)
 digits_less o at (suc i) n z e l h =
     let k : suc i - 1 ≡ i = omega arith in
     rw (k) (last_less o at i i (48 + n % 10) (digits i (n / 10)) z e (length_digits i (n / 10)) refl (omega arith))
+
+-- a part from the end to the start: with the bytes from place i on those of s, one byte more is
+pub copied_less : (d s : List ℕ) (i : ℕ) → length d ≡ length s → drop i d ≡ drop i s → 1 ≤ i → i ≤ length s → drop (i - 1) (set d (i - 1) (get_or s (i - 1) 0)) ≡ drop (i - 1) s
+copied_less d s i l e h m =
+    let k : ℕ = i - 1 in
+    let v : ℕ = get_or s k 0 in
+    let next : suc k ≡ i = omega arith in
+    drop-cons (set d k v) k 0 (lt-length-set d k v (omega arith))
+    ∙ rw (get_or-set_same d k v 0 (omega arith), drop-set-lt (suc k) d k v (omega arith), next, e)
+    (sym (rw (next) at (drop-cons s k 0 (omega arith))))
 
 -- where nothing is left to write, all is written
 pub all_put : (o : List ℕ) (at : ℕ) (xs z : List ℕ) → put o at xs ≡ z → length xs ≤ 0 → o ≡ z

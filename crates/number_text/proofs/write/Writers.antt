@@ -2,15 +2,17 @@
 -- nothing is.
 use Prim.Native.Nat.{ℕ, ◌-◌, ◌≤◌, ◌<◌, max}
 use mathlib.Core.Path.{◌≡◌, refl, sym, ap, ◌∙◌}
-use mathlib.Core.List.{List}
+use mathlib.Core.List.{List, ◌++◌}
 use mathlib.Core.Bool.{Bool}
 use native.Mathlib.Omega.{arith}
 use lib.ListN.{length, take, replicate, length-append, length-replicate}
 use lib.Dec.{leb}
+use lib.IntN.{ℤ, nat_abs}
+use Rattle.outcome.specs.Signs.{is_negative}
 use borrow.Author.Tests.{le-leb, lt-leb, leb-true}
 use Rattle.outcome.specs.Outcome.{given, refused, Numbered, pick}
 use Rattle.outcome.proofs.Outcomes.{given_injective, unless-given, unless_numbered}
-use Rattle.number_text.specs.write.Writing.{digits, places, decimal_text, padded_text, right_aligned, put, Wrote, Puts, written_length, written_bytes, Written}
+use Rattle.number_text.specs.write.Writing.{digits, places, decimal_text, padded_text, sign_text, signed_text, right_aligned, put, Wrote, Puts, written_length, written_bytes, Written}
 use Rattle.number_text.proofs.length.Digits.{places-some, length_decimal, length_padded}
 use Rattle.number_text.specs.declared.write.Writer.{Writer}
 use Rattle.number_text.proofs.write.Putting.{put_text}
@@ -60,6 +62,10 @@ padded_digits width n k e = ap (λ (j : ℕ). digits j n) (e ∙ length_padded w
 pub padded_one : (n : ℕ) → padded_text 1 n ≡ decimal_text n
 unfolding decimal_text padded_text
 padded_one n = let e : max 1 (places n) ≡ places n = omega (arith, places-some n) in rw (e)
+
+signed_text_lem : (z : ℤ) → sign_text (is_negative z) ++ decimal_text (nat_abs z) ≡ signed_text z
+unfolding signed_text
+signed_text_lem z = refl
 
 -- ---- blanks and then the text
 

@@ -1,9 +1,9 @@
 -- Numbers as text: which bytes are a number, and which number they are. A refusal's number n is the
 -- caller's: 4 in a
 -- period, 6 in a coupon date.
-use Rattle.std.specs.Prelude.{ℕ, ◌+◌, ◌-◌, ◌*◌, ◌≡◌, Bool, false, List, [], ◌∷◌, leb, eqb, drop, ℤ, pos, neg_ℤ, Result}
+use Rattle.std.specs.Prelude.{ℕ, ◌+◌, ◌-◌, ◌*◌, ◌≡◌, Bool, false, List, [], ◌∷◌, leb, eqb, drop, ℤ, pos, neg_ℤ, Result, Ok, Err}
 use Rattle.outcome.specs.Lists.{all_of}
-use Rattle.outcome.specs.Outcome.{Outcome, given, unless, and_then, pick, both}
+use Rattle.outcome.specs.Outcome.{Outcome, given, refused, unless, and_then, pick, both}
 use Rattle.outcome.specs.Refusals.{outcome_of}
 use Rattle.outcome.specs.declared.Refusal.{Refusal}
 
@@ -61,7 +61,25 @@ from_zero n s = and_then (decimal_number 2147483647 n s) (λ v. given (pos v))
 unfoldable pub signed_number : ℕ → List ℕ → Outcome ℤ
 signed_number n s = pick (begins 45 s) (below_zero n (drop 1 s)) (from_zero n (after_plus s))
 
--- what the readers promise of the bytes s and their answer r: a decimal
+-- the outcome of a result whose refusals are numbered by f
+abbrev pub outcome_by : {A E : Type 0} → (E → ℕ) → Result A E → Outcome A
+outcome_by f (Ok a) = given a
+outcome_by f (Err e) = refused (f e)
+
+-- what the readers promise of the refusal e that their caller names, the bytes s and their answer
+-- r, however refusals are numbered: a decimal
+abbrev pub TellsDecimal : {E : Type 0} → ℕ → E → List ℕ → Result ℕ E → Type 0
+TellsDecimal {E} most e s r = (f : E → ℕ) → outcome_by f r ≡ decimal_number most (f e) s
+
+-- an unsigned number
+abbrev pub TellsUnsigned : {E : Type 0} → E → List ℕ → Result ℕ E → Type 0
+TellsUnsigned {E} e s r = (f : E → ℕ) → outcome_by f r ≡ unsigned_number (f e) s
+
+-- a signed number
+abbrev pub TellsSigned : {E : Type 0} → E → List ℕ → Result ℤ E → Type 0
+TellsSigned {E} e s r = (f : E → ℕ) → outcome_by f r ≡ signed_number (f e) s
+
+-- and so with the numbers of documents 01 and 02: a decimal
 abbrev pub ReadsDecimal : ℕ → ℕ → List ℕ → Result ℕ Refusal → Type 0
 ReadsDecimal most n s r = outcome_of r ≡ decimal_number most n s
 

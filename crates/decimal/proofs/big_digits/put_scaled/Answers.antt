@@ -26,4 +26,4 @@ multiply-requires-2 c = rw c.power_of_two-2.ensures (pow_mono {j = 48} (omega ar
 pub returns : goal.returns
 returns c =
     let l = c.loop in
-    scaled_more _ _ _ _ _ _ _ _ l.invariant.0 l.invariant.1 c.power_of_two-2.ensures (omega arith) c.multiply-2.ensures
+    scaled_more _ _ _ _ _ _ _ _ l.invariant.0 l.invariant.1 c.power_of_two-2.ensures (omega (arith, c.saturating_sub-whole.ensures)) c.multiply-2.ensures

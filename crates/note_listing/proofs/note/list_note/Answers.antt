@@ -36,4 +36,4 @@ returns-else-out-list c =
 
 pub returns-in-Err : goal.returns-in-Err
 unfolding listing
-returns-in-Err c = refusal_written _ _ _ _ _ (ap answer_text (sym c.in-Err.ensures)) c.write_refusal.ensures
+returns-in-Err c = refusal_written _ _ _ _ _ (ap answer_text (sym c.in-Err.ensures)) (rw (c.number.ensures) at c.write_refusal.ensures)

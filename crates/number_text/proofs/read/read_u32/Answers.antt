@@ -3,4 +3,4 @@ use Rattle.number_text.proofs.read.Decimals.{unsigned_is}
 use Rattle.number_text.proofs.read.read_u32.Goals as goal
 
 pub returns : goal.returns
-returns c = unsigned_is _ _ _ _ c.read_decimal.ensures c.after_plus.ensures
+returns g c = λ f. unsigned_is _ _ _ _ (c.read_decimal.ensures f) c.after_plus.ensures

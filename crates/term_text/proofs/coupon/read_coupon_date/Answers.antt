@@ -2,6 +2,7 @@
 use mathlib.Core.Path.{◌≡◌, ◌∙◌, ap}
 use mathlib.Core.List.{List}
 use Prim.Native.Nat.{ℕ, ◌+◌}
+use Rattle.outcome.specs.Refusals.{number_of}
 use Rattle.outcome.proofs.Lists.{part_from}
 use Rattle.outcome.proofs.Refusals.{handed_on}
 use Rattle.number_text.specs.read.Reading.{unsigned_number}
@@ -22,13 +23,13 @@ pub returns-in_err-day : goal.returns-in_err-day
 unfolding coupon_text day_part
 returns-in_err-day c =
     rw (← bare (goal.at.returns-in_err-day c).After-trim_end-s, c.in-Some.ensures.1)
-    (handed_on _ _ _ c.from_residual.ensures.1 (c.in_err-day.ensures ∙ ap (unsigned_number 6) c.in-Some.ensures.2))
+    (handed_on _ _ _ c.from_residual.ensures.1 (c.in_err-day.ensures number_of ∙ ap (unsigned_number 6) c.in-Some.ensures.2))
 
 pub returns-in_err-month : goal.returns-in_err-month
 unfolding coupon_text day_part month_part
 returns-in_err-month c =
     let s = c.trim_end-s.result.now in
-    let day = c.in_ok-day.ensures ∙ ap (unsigned_number 6) c.in-Some.ensures.2 in
+    let day = c.in_ok-day.ensures number_of ∙ ap (unsigned_number 6) c.in-Some.ensures.2 in
     let behind = part_from s (c.in-Some.dot + 1) ∙ c.in-Some.ensures.3 in
     rw (← bare (goal.at.returns-in_err-month c).After-trim_end-s, c.in-Some.ensures.1, ← day)
     (handed_on _ _ _ c.from_residual-in_err-month.ensures.1 (c.in_err-month.ensures ∙ ap (λ (t : List ℕ). unsigned_number 6 (up_to_dot t)) behind))
@@ -37,7 +38,7 @@ pub returns : goal.returns
 unfolding coupon_text day_part month_part
 returns c =
     let s = c.trim_end-s.result.now in
-    let day = c.in_ok-day.ensures ∙ ap (unsigned_number 6) c.in-Some.ensures.2 in
+    let day = c.in_ok-day.ensures number_of ∙ ap (unsigned_number 6) c.in-Some.ensures.2 in
     let behind = part_from s (c.in-Some.dot + 1) ∙ c.in-Some.ensures.3 in
     let month = c.in_ok-month.ensures ∙ ap (λ (t : List ℕ). unsigned_number 6 (up_to_dot t)) behind in
     rw (← bare (goal.at.returns c).After-trim_end-s, c.in-Some.ensures.1, ← day, ← month) c.new_coupon_date.ensures

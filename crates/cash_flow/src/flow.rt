@@ -1,6 +1,6 @@
 // Cash flows: an amount of a currency on a date; comparison of two.
 ghost use Rattle.std.specs.Prelude.{◌≡◌};
-ghost use Rattle.cash_flow.specs.flow.Flows.{date_on, AggregatablePromise, ComparisonPromise};
+ghost use Rattle.cash_flow.specs.flow.Flows.{date_on, is_within, AggregatablePromise, ComparisonPromise};
 
 use crate::currency::Currency;
 use calendar::{Date, Day};
@@ -36,11 +36,21 @@ pub fn aggregatable(a: CashFlow, b: CashFlow) -> bool
     a.date == b.date && a.currency == b.currency
 }
 
+// finql's `abs() <= tol`, the sign dropped by hand; a NaN on either side is no.
+fn is_within(d: f64, tol: f64) -> bool
+    ensures { result ≡ is_within d tol }
+{
+    if d < 0.0 {
+        return -d <= tol;
+    }
+    d <= tol
+}
+
 // Whether two flows have the same date, the same currency and amounts within a tolerance of each
 // other.
-#[tactic(auto, using(crate::proofs::flow::Signs::sign_dropped), unfolding(crate::specs::flow::Flows::same_flows, crate::specs::flow::Flows::is_within))]
+#[tactic(auto, unfolding(crate::specs::flow::Flows::same_flows))]
 pub fn fuzzy_cash_flows_cmp_eq(a: CashFlow, b: CashFlow, tol: f64) -> bool
     ensures { ComparisonPromise a b tol result }
 {
-    aggregatable(a, b) && (a.amount - b.amount).abs() <= tol
+    aggregatable(a, b) && is_within(a.amount - b.amount, tol)
 }

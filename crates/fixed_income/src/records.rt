@@ -2,11 +2,19 @@
 ghost use Rattle.std.specs.Prelude.{◌≡◌};
 ghost use Rattle.outcome.specs.Refusals.{outcome_of};
 ghost use Rattle.outcome.specs.Room.{counted};
+ghost use Rattle.fixed_income.specs.records.After.{is_later};
 ghost use Rattle.fixed_income.specs.records.Promises.{records_written, AfterPromise};
 
 use calendar::Date;
 use cash_flow::CashFlow;
 use outcome::Refusal;
+
+#[tactic(auto, unfolding(calendar::specs::dates::Dates::is_before))]
+fn is_later(flow: CashFlow, date: Date) -> bool
+    ensures { result ≡ is_later date flow }
+{
+    date < flow.date
+}
 
 // How many records are later than a date; refused 1, and 16 for fewer places. All of them are judged
 // before one is written.
@@ -21,7 +29,7 @@ fn count_after(flows: &[CashFlow], date: Date, places: usize) -> Result<usize, R
         if !calendar::is_date(f.date) {
             return Err(Refusal::InvalidDate);
         }
-        if date < f.date {
+        if is_later(*f, date) {
             count += 1;
         }
     }
@@ -42,7 +50,7 @@ pub fn get_cash_flows_after(
     let count = count_after(flows, date, room.len())?;
     let mut k = 0;
     for flow in flows {
-        if date < flow.date {
+        if is_later(*flow, date) {
             room[k] = *flow;
             k += 1;
         }

@@ -25,7 +25,7 @@ const NO_PLACE: usize = 4097;
 
 // A flow, and the serial day that it is paid on.
 #[derive(Clone, Copy)]
-pub(crate) struct Paid {
+pub struct Paid {
     pub day: u32,
     pub flow: CashFlow,
 }
@@ -79,9 +79,9 @@ impl<'a> NoteFlows<'a> {
         })
     }
 
-    // The next flow, the refusal that stands in its place, or none behind the last.
+    // Inner: the next flow, the refusal that stands in its place, or none behind the last.
     #[tactic(auto, using(crate::proofs::flows::Dues::owing))]
-    fn next(&mut self) -> Result<Option<Paid>, Refusal>
+    pub fn next(&mut self) -> Result<Option<Paid>, Refusal>
         ensures { Turned self.old self.new (outcome_of result) }
     {
         let Some(payment) = crate::schedule::owed(self.note, self.position, self.due)? else {

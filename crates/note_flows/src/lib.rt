@@ -5,4 +5,5 @@ pub mod flows;
 pub mod schedule;
 
 // Inner: for the crates of the register; only `NoteFlows::new` judges.
-pub use flows::{KEPT, NoteFlows};
+pub use flows::{KEPT, NoteFlows, Paid};
+pub use schedule::Due;

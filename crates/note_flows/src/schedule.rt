@@ -9,7 +9,7 @@ use outcome::Refusal;
 
 // What is due: the first coupon, what follows a coupon that ended on a date, or nothing more.
 #[derive(Clone, Copy)]
-pub(crate) enum Due {
+pub enum Due {
     First,
     After(Date),
     Nothing,

@@ -1,3 +1,4 @@
 pub mod Rolled
+pub mod Rolling
 pub mod OneOutcome
 pub mod Examples

@@ -1,5 +1,8 @@
 -- An answer is fixed by its outcome, and no second result satisfies an entry point's promise.
+use Rattle.std.specs.Prelude.{Result}
 use Rattle.outcome.specs.Refusals.{outcome_of}
+use Rattle.outcome.specs.declared.Refusal.{Refusal}
+use Rattle.outcome.proofs.Refusals.{same_result}
 use Prim.Native.Nat.{ℕ}
 use mathlib.Core.Path.{◌≡◌}
 use mathlib.Core.Bool.{Bool}
@@ -8,6 +11,9 @@ use Rattle.outcome.proofs.Outcomes.{one_value, Returns, returns}
 use Rattle.calendar.specs.declared.dates.Date.{Date}
 use Rattle.cash_flow.specs.flow.Flows.{flows_returned, date_on, AggregatablePromise, ComparisonPromise}
 use Rattle.cash_flow.specs.declared.flow.CashFlow.{CashFlow}
+
+pub same_flows-answer : (r s : Result ℕ Refusal) → outcome_of r ≡ outcome_of s → r ≡ s
+same_flows-answer r s e = same_result r s e
 
 -- a refusal returns its number and the zero
 pub flows-returned : Returns outcome_of 0 flows_returned

@@ -1,13 +1,12 @@
 -- `fixed_income::count_after` meets its contract: what is left of the records decides.
 use mathlib.Core.Path.{sym, ◌∙◌}
 use Rattle.calendar.specs.dates.Dates.{is_date}
-use Rattle.calendar.proofs.dates.Compared.{before_by_less}
 use Rattle.cash_flow.proofs.flow.NoFlow.{no_flow}
 use Rattle.fixed_income.specs.records.After.{has_date, is_later, flows_after}
 use Rattle.fixed_income.specs.records.Promises.{records_written}
 use Rattle.fixed_income.proofs.records.Later.{judging_yes, judging_no, undated, undated_flow, too_few, enough}
 use Rattle.fixed_income.proofs.records.count_after.Goals as goal
-use Rattle.fixed_income.proofs.records.count_after.Goals.{then-lt, else-lt}
+use Rattle.fixed_income.proofs.records.count_after.Goals.{then-is_later, else-is_later}
 
 pub returns-then-not-is_date : goal.returns-then-not-is_date
 unfolding records_written flows_after
@@ -22,10 +21,10 @@ pub loop-f-preserved : goal.loop-f-preserved
 loop-f-preserved c =
     let l = c.loop-f in
     let dated = sym c.is_date-in-loop-f.ensures ∙ c.if-not-is_date-2.false in
-    let later = sym (before_by_less _ _ _ c.lt.ensures) in
-    elim c.if-lt.branch [
-      | then-lt w ↦ rw w.count-is (judging_yes has_date (is_later c.args.date) c.args.flows.now no_flow l.f-index l.count c.loop-f-test.true l.invariant dated (later ∙ w.if-lt.true))
-      | else-lt w ↦ rw w.count-is (judging_no has_date (is_later c.args.date) c.args.flows.now no_flow l.f-index l.count c.loop-f-test.true l.invariant dated (later ∙ w.if-lt.false))
+    let later = sym c.is_later.ensures in
+    elim c.if-is_later.branch [
+      | then-is_later w ↦ rw w.count-is (judging_yes has_date (is_later c.args.date) c.args.flows.now no_flow l.f-index l.count c.loop-f-test.true l.invariant dated (later ∙ w.if-is_later.true))
+      | else-is_later w ↦ rw w.count-is (judging_no has_date (is_later c.args.date) c.args.flows.now no_flow l.f-index l.count c.loop-f-test.true l.invariant dated (later ∙ w.if-is_later.false))
     ]
 
 pub returns-then-places-count : goal.returns-then-places-count

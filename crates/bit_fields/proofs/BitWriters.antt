@@ -13,6 +13,7 @@ use Rattle.outcome.proofs.Lists.{tails_agree, every_append}
 use Rattle.bit_fields.specs.Bits.{Field, in_bits, field_bits, fields_bits, bits_of, bytes_of, AreBytes}
 use Rattle.bit_fields.specs.BitWriters.{bits_so_far, put_so_far, FieldsPut}
 use Rattle.bit_fields.specs.declared.BitWriter.{BitWriter}
+use Rattle.bit_fields.specs.declared.LentBits.{LentBits}
 use Rattle.bit_fields.proofs.Bits.{length-field, one_field, field-split, field_cut, fields_append, bits_of_append, one_byte, bytes_back, length-bytes}
 use Rattle.number_text.specs.write.Writing.{put}
 use Rattle.number_text.proofs.write.Putting.{put_front}
@@ -89,10 +90,11 @@ module _ (p : BitWriter) (w x m : ℕ) (k : w ≤ 56) (l : x < 2 ^ w) (e : m ≡
       let low : field_bits w N ≡ field_bits w x = sym (field_cut w N) ∙ ap (field_bits w) (digits_mod p.bits l) in
       rw (e) (field-split p.count w N ∙ rw (top, low))
 
-  pub field_put : (r : BitWriter) → r.out.ghost_name ≡ p.out.ghost_name → Flushed p.out.now p.place (p.count + w) (p.bits * m + x) r.out.now r.place r.count r.bits → FieldsPut p r w (in_bits w x ∷ [])
+module _ (p : LentBits) (w x m : ℕ) (k : w ≤ 56) (l : x < 2 ^ w) (e : m ≡ 2 ^ w) where
+  pub field_put : (r : LentBits) → r.out.ghost_name ≡ p.out.ghost_name → Flushed p.out.now p.writer.place (p.writer.count + w) (p.writer.bits * m + x) r.out.now r.writer.place r.writer.count r.writer.bits → FieldsPut p r w (in_bits w x ∷ [])
   field_put r g f = record {
     same_reference = g;
-    standing = f.standing ∙ rw (gathered_bits, one_field (in_bits w x)) (sym (append_assoc (bits_of (take p.place p.out.now)) (field_bits p.count p.bits) (field_bits w x)));
+    standing = f.standing ∙ rw (gathered_bits p.writer w x m k l e, one_field (in_bits w x)) (sym (append_assoc (bits_of (take p.writer.place p.out.now)) (field_bits p.writer.count p.writer.bits) (field_bits w x)));
     bytes = f.bytes;
     past = f.past;
     same_length = f.same_length;
@@ -103,10 +105,10 @@ module _ (p : BitWriter) (w x m : ℕ) (k : w ≤ 56) (l : x < 2 ^ w) (e : m ≡
 -- ---- all of them
 
 -- since the bytes d, the bits s were put
-pub record BitsPut (d : List ℕ) (p : BitWriter) (s : List ℕ) : Type 0 where
+pub record BitsPut (d : List ℕ) (p : LentBits) (s : List ℕ) : Type 0 where
   pub standing : put_so_far p ≡ s
-  pub bytes : AreBytes (take p.place p.out.now)
-  pub past : drop p.place p.out.now ≡ drop p.place d
+  pub bytes : AreBytes (take p.writer.place p.out.now)
+  pub past : drop p.writer.place p.out.now ≡ drop p.writer.place d
   pub same_length : length p.out.now ≡ length d
   pub placed : bits_so_far p ≡ length s
 
@@ -115,19 +117,19 @@ unfolding field_bits
 no_bits n = refl
 
 -- where the fields end at a byte's end, their bytes stand in front of the old ones
-pub bits_put_all : (d : List ℕ) (p : BitWriter) (s : List ℕ) (k : ℕ) → BitsPut d p s → length s ≡ 8 * k → k ≤ length d → (p.out.now ≡ put d 0 (bytes_of k s)) × (p.place ≡ k)
+pub bits_put_all : (d : List ℕ) (p : LentBits) (s : List ℕ) (k : ℕ) → BitsPut d p s → length s ≡ 8 * k → k ≤ length d → (p.out.now ≡ put d 0 (bytes_of k s)) × (p.writer.place ≡ k)
 bits_put_all d p s k i l h =
     let e : List ℕ = p.out.now in
-    let whole : p.place ≡ k = omega (arith, i.placed, p.part_of_a_byte) in
-    let none : p.count ≡ 0 = omega (arith, i.placed, p.part_of_a_byte) in
-    let front : bits_of (take k e) ≡ s = sym (append-nil (bits_of (take k e))) ∙ (rw (whole, none, no_bits p.bits) at i.standing) in
+    let whole : p.writer.place ≡ k = omega (arith, i.placed, p.writer.part_of_a_byte) in
+    let none : p.writer.count ≡ 0 = omega (arith, i.placed, p.writer.part_of_a_byte) in
+    let front : bits_of (take k e) ≡ s = sym (append-nil (bits_of (take k e))) ∙ (rw (whole, none, no_bits p.writer.bits) at i.standing) in
     let size : length (take k e) ≡ k = length-take-le k e (omega (arith, i.same_length)) in
     let bytes : bytes_of k s ≡ take k e = ap (bytes_of k) (sym front) ∙ ap (λ (n : ℕ). bytes_of n (bits_of (take k e))) (sym size) ∙ bytes_back (take k e) (rw (whole) at i.bytes) in
     (sym (take-append-drop k e) ∙ rw (rw (whole) at i.past, ← bytes) (sym (put_front d (bytes_of k s) k (length-bytes k s))), whole)
 
 -- ---- fields one after the other
 
-pub put-none : (p : BitWriter) → FieldsPut p p 0 []
+pub put-none : (p : LentBits) → FieldsPut p p 0 []
 unfolding fields_bits
 put-none p = record {
   same_reference = refl;
@@ -139,19 +141,19 @@ put-none p = record {
   counted = refl;
 }
 
-pub put_then : {p q r : BitWriter} {m n : ℕ} {fs gs : List Field} → FieldsPut p q m fs → FieldsPut q r n gs → FieldsPut p r (m + n) (fs ++ gs)
+pub put_then : {p q r : LentBits} {m n : ℕ} {fs gs : List Field} → FieldsPut p q m fs → FieldsPut q r n gs → FieldsPut p r (m + n) (fs ++ gs)
 put_then {p} {q} {r} {m} {n} {fs} {gs} a b = record {
   same_reference = b.same_reference ∙ a.same_reference;
   standing = b.standing ∙ ap (λ (x : List ℕ). x ++ fields_bits gs) a.standing ∙ append_assoc (put_so_far p) (fields_bits fs) (fields_bits gs) ∙ ap (λ (x : List ℕ). put_so_far p ++ x) (sym (fields_append fs gs));
   bytes = λ x. b.bytes (a.bytes x);
-  past = b.past ∙ tails_agree q.out.now p.out.now q.place r.place (omega (arith, b.moved, q.part_of_a_byte, r.part_of_a_byte)) a.past;
+  past = b.past ∙ tails_agree q.out.now p.out.now q.writer.place r.writer.place (omega (arith, b.moved, q.writer.part_of_a_byte, r.writer.part_of_a_byte)) a.past;
   same_length = b.same_length ∙ a.same_length;
   moved = omega (arith, a.moved, b.moved);
   counted = ap length (fields_append fs gs) ∙ omega (arith, length-append (fields_bits fs) (fields_bits gs), a.counted, b.counted);
 }
 
 -- the same bits as other fields
-pub put_is : {p r : BitWriter} {m n : ℕ} {fs gs : List Field} → FieldsPut p r m fs → m ≡ n → fields_bits fs ≡ fields_bits gs → FieldsPut p r n gs
+pub put_is : {p r : LentBits} {m n : ℕ} {fs gs : List Field} → FieldsPut p r m fs → m ≡ n → fields_bits fs ≡ fields_bits gs → FieldsPut p r n gs
 put_is {p} {r} {m} {n} {fs} {gs} a i j = record {
   same_reference = a.same_reference;
   standing = a.standing ∙ ap (λ (x : List ℕ). put_so_far p ++ x) j;
@@ -170,18 +172,18 @@ in_two a b x =
     ∙ sym (append_assoc (field_bits a (x / 2 ^ b)) (field_bits b x) [])
     ∙ ap (λ (s : List ℕ). s ++ []) (sym (field-split a b x))
 
-pub put_in_two : {p q r : BitWriter} (w x : ℕ) → 32 ≤ w → FieldsPut p q (w - 32) (in_bits (w - 32) (x / 4294967296) ∷ []) → FieldsPut q r 32 (in_bits 32 (x % 4294967296) ∷ []) → FieldsPut p r w (in_bits w x ∷ [])
+pub put_in_two : {p q r : LentBits} (w x : ℕ) → 32 ≤ w → FieldsPut p q (w - 32) (in_bits (w - 32) (x / 4294967296) ∷ []) → FieldsPut q r 32 (in_bits 32 (x % 4294967296) ∷ []) → FieldsPut p r w (in_bits w x ∷ [])
 put_in_two w x h a b =
     let e : w - 32 + 32 ≡ w = omega arith in
     put_is (put_then a b) e (in_two (w - 32) 32 x ∙ ap (λ (k : ℕ). fields_bits (in_bits k x ∷ [])) e)
 
 -- ---- from the first byte on
 
-start_none : (p : BitWriter) → p.place ≡ 0 → p.count ≡ 0 → put_so_far p ≡ []
+start_none : (p : LentBits) → p.writer.place ≡ 0 → p.writer.count ≡ 0 → put_so_far p ≡ []
 unfolding bits_of fields_bits field_bits
 start_none p e f = rw (e, f)
 
-pub put_from_start : {p r : BitWriter} {n : ℕ} {fs : List Field} → (p.place ≡ 0) × (p.count ≡ 0) → FieldsPut p r n fs → BitsPut p.out.now r (fields_bits fs)
+pub put_from_start : {p r : LentBits} {n : ℕ} {fs : List Field} → (p.writer.place ≡ 0) × (p.writer.count ≡ 0) → FieldsPut p r n fs → BitsPut p.out.now r (fields_bits fs)
 put_from_start {p} {fs = fs} s a = record {
   standing = a.standing ∙ ap (λ (s : List ℕ). s ++ fields_bits fs) (start_none p s.0 s.1);
   bytes = a.bytes (rw (s.0) (omega arith));

@@ -50,34 +50,41 @@ pub fn read_field(s: &[u8], at: usize, width: usize) -> u64
     read_part(s, at, high) * 4294967296 + read_part(s, at + high, 32)
 }
 
-// Lent bytes into which fields are put: how many bytes are written, and the bits of the next one
-// that are at hand.
-#[derive(Drop)]
-pub struct BitWriter<'a> {
-    out: &'a mut [u8],
+// How many bytes are written, and the bits of the next one that are at hand.
+#[derive(Clone, Copy)]
+pub struct BitWriter {
     pub place: usize,
-    count: usize,
-    bits: u64,
+    pub count: usize,
+    pub bits: u64,
     pub ghost part_of_a_byte: { count < 8 },
     pub ghost held: { bits < 2 ^ count },
 }
 
-impl<'a> BitWriter<'a> {
+// Lent bytes into which fields are put, and how far that is.
+#[derive(Drop)]
+pub struct LentBits<'a> {
+    out: &'a mut [u8],
+    pub writer: BitWriter,
+}
+
+impl<'a> LentBits<'a> {
     ghost use Rattle.std.specs.Prelude.{[], ◌∷◌};
     ghost use Rattle.bit_fields.specs.Bits.{in_bits};
     ghost use Rattle.bit_fields.specs.BitWriters.{HasRoom, FieldsPut, to_the_byte};
 
     // Inner: a writer at the first of the lent bytes.
-    pub fn new(out: &'a mut [u8]) -> BitWriter<'a>
+    pub fn new(out: &'a mut [u8]) -> LentBits<'a>
         ensures same_reference { result.out.ghost_name ≡ out.entry.ghost_name }
         ensures same_bytes { result.out.now ≡ out.old }
-        ensures start { (result.place ≡ 0) × (result.count ≡ 0) }
+        ensures start { (result.writer.place ≡ 0) × (result.writer.count ≡ 0) }
     {
-        BitWriter {
+        LentBits {
             out,
-            place: 0,
-            count: 0,
-            bits: 0,
+            writer: BitWriter {
+                place: 0,
+                count: 0,
+                bits: 0,
+            },
         }
     }
 
@@ -86,9 +93,9 @@ impl<'a> BitWriter<'a> {
         requires { (width ≤ 56) × (x < 2 ^ width) × HasRoom self.old width }
         ensures { FieldsPut self.old self.new width (in_bits width x ∷ []) }
     {
-        let mut count = self.count + width;
-        let mut bits = self.bits * power_of_two(width) + x;
-        let mut place = self.place;
+        let mut count = self.writer.count + width;
+        let mut bits = self.writer.bits * power_of_two(width) + x;
+        let mut place = self.writer.place;
         // No count of turns: a whole byte leaves in each, and a `for` would need the number of them.
         while 8 <= count {
             count -= 8;
@@ -96,9 +103,7 @@ impl<'a> BitWriter<'a> {
             bits = bits % power_of_two(count);
             place += 1;
         }
-        self.place = place;
-        self.count = count;
-        self.bits = bits;
+        self.writer = BitWriter { place, count, bits };
     }
 
     // Inner: a field put behind those that are put already; asks for room, and a number that fits.
@@ -118,6 +123,6 @@ impl<'a> BitWriter<'a> {
         requires { HasRoom self.old (to_the_byte self.old) }
         ensures { FieldsPut self.old self.new (to_the_byte self.old) (in_bits (to_the_byte self.old) 0 ∷ []) }
     {
-        self.put(0, (8 - self.count) % 8);
+        self.put(0, (8 - self.writer.count) % 8);
     }
 }

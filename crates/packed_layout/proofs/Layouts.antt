@@ -12,7 +12,7 @@ use Rattle.outcome.proofs.Filling.{Filled, filled_more, filled_all}
 use Rattle.outcome.proofs.Lists.{head_at, take_more, every_at}
 use Rattle.bit_fields.specs.Bits.{Field, in_bits, field_bits, fields_bits, bits_of, field}
 use Rattle.bit_fields.specs.BitWriters.{FieldsPut}
-use Rattle.bit_fields.specs.declared.BitWriter.{BitWriter}
+use Rattle.bit_fields.specs.declared.LentBits.{LentBits}
 use Rattle.bit_fields.proofs.Bits.{length-field, widths, field_found, field_at, field_below}
 use Rattle.bit_fields.proofs.BitWriters.{put_then, put_is}
 use Rattle.packed_layout.specs.Layouts.{total, position, numbers_from, fields_from, FitsItsBits, AllFit}
@@ -81,7 +81,7 @@ fill_all s old ws at k new e l f =
     whole ∙ ap (λ (t : List ℕ). numbers_from s 0 ws ++ t) (ap (λ (j : ℕ). drop j old) (e ∙ sym l) ∙ drop-length old) ∙ append-nil (numbers_from s 0 ws)
 
 -- and put one more
-pub put-more : {p q r : BitWriter} (ws ns : List ℕ) (k : ℕ) → k < length ws → FieldsPut p q (position ws k) (take k (fields_from 0 ws ns)) → FieldsPut q r (get_or ws k 0) (in_bits (get_or ws k 0) (get_or ns k 0) ∷ []) → FieldsPut p r (position ws (k + 1)) (take (k + 1) (fields_from 0 ws ns))
+pub put-more : {p q r : LentBits} (ws ns : List ℕ) (k : ℕ) → k < length ws → FieldsPut p q (position ws k) (take k (fields_from 0 ws ns)) → FieldsPut q r (get_or ws k 0) (in_bits (get_or ws k 0) (get_or ns k 0) ∷ []) → FieldsPut p r (position ws (k + 1)) (take (k + 1) (fields_from 0 ws ns))
 put-more ws ns k h a b =
     let fs : List Field = fields_from 0 ws ns in
     let e : 0 + k ≡ k = zero-add k in
@@ -89,7 +89,7 @@ put-more ws ns k h a b =
     let more : take (k + 1) fs ≡ take k fs ++ (in_bits (get_or ws k 0) (get_or ns k 0) ∷ []) = take_more fs k (in_bits 0 0) (rw (length-fields_from 0 ws ns) h) ∙ ap (λ (f : Field). take k fs ++ (f ∷ [])) here in
     put_is (put_then a b) (sym (position-more ws k h)) (ap fields_bits (sym more))
 
-pub put_all : {p r : BitWriter} (ws ns : List ℕ) (k : ℕ) → k ≡ length ws → FieldsPut p r (position ws k) (take k (fields_from 0 ws ns)) → FieldsPut p r (total ws) (fields_from 0 ws ns)
+pub put_all : {p r : LentBits} (ws ns : List ℕ) (k : ℕ) → k ≡ length ws → FieldsPut p r (position ws k) (take k (fields_from 0 ws ns)) → FieldsPut p r (total ws) (fields_from 0 ws ns)
 put_all ws ns k h a =
     let fs : List Field = fields_from 0 ws ns in
     put_is a (ap (position ws) h ∙ ap total (take-length ws)) (ap fields_bits (ap (λ (j : ℕ). take j fs) (h ∙ sym (length-fields_from 0 ws ns)) ∙ take-length fs))

@@ -6,7 +6,7 @@ ghost use Rattle.bit_fields.specs.BitWriters.{HasRoom, FieldsPut};
 ghost use Rattle.packed_layout.specs.Layouts.{total};
 ghost use Rattle.packed_layout.specs.NoteLayout.{note_widths, note_numbers, note_fields, NumbersFit, bit_length, byte_length};
 
-use bit_fields::BitWriter;
+use bit_fields::LentBits;
 
 pub const FIELDS: usize = 20;
 
@@ -109,7 +109,7 @@ pub fn read_numbers(s: &[u8]) -> NoteNumbers
 }
 
 // Inner: a note's numbers put into its fields; asks for room.
-pub fn put_numbers(writer: &mut BitWriter<'_>, numbers: NoteNumbers)
+pub fn put_numbers(writer: &mut LentBits<'_>, numbers: NoteNumbers)
     requires { HasRoom writer.old (total note_widths) }
     ensures { FieldsPut writer.old writer.new (total note_widths) (note_fields numbers.fields) }
 {

@@ -10,7 +10,7 @@ ghost use Rattle.packed_write.specs.numbers.Packable.{Packable};
 ghost use Rattle.packed_write.specs.packed.Fields.{numbers_bytes, record_bytes};
 ghost use Rattle.packed_write.specs.packed.Writing.{WritePromise};
 
-use bit_fields::BitWriter;
+use bit_fields::LentBits;
 use bond::Note;
 use outcome::Refusal;
 use packed_layout::{COUNT_WIDTH, DAY_WIDTH, NoteNumbers};
@@ -18,7 +18,7 @@ use packed_layout::{COUNT_WIDTH, DAY_WIDTH, NoteNumbers};
 // The largest number that the 12 bits of a period hold.
 const MOST_NUMBER: i32 = 4095;
 
-fn put_days(writer: &mut BitWriter<'_>, table: &[u32])
+fn put_days(writer: &mut LentBits<'_>, table: &[u32])
     requires { HasRoom writer.old (day_width * length table.now) × (is_table table.now ≡ true) }
     ensures { FieldsPut writer.old writer.new (day_width * length table.now) (map (in_bits day_width) table.now) }
 {
@@ -27,7 +27,7 @@ fn put_days(writer: &mut BitWriter<'_>, table: &[u32])
     }
 }
 
-fn put_table(writer: &mut BitWriter<'_>, table: &[u32])
+fn put_table(writer: &mut LentBits<'_>, table: &[u32])
     requires { HasRoom writer.old (count_width + day_width * length table.now) × (is_table table.now ≡ true) }
     ensures { FieldsPut writer.old writer.new (count_width + day_width * length table.now) (table_fields table.now) }
 {
@@ -40,11 +40,11 @@ fn put_record(numbers: NoteNumbers, table: &[u32], out: &mut [u8]) -> usize
     requires { (is_table table.now ≡ true) × (byte_length (length table.now) ≤ length out.old) }
     ensures { Wrote out.old out.new 0 (numbers_bytes numbers.fields table.now) result }
 {
-    let mut writer = BitWriter::new(out);
-    packed_layout::put_numbers(&mut writer, numbers);
-    put_table(&mut writer, table);
-    writer.fill_byte();
-    writer.place
+    let mut lent = LentBits::new(out);
+    packed_layout::put_numbers(&mut lent, numbers);
+    put_table(&mut lent, table);
+    lent.fill_byte();
+    lent.writer.place
 }
 
 fn write_judged(note: Note, table: &[u32], out: &mut [u8]) -> Result<usize, Refusal>

@@ -6,6 +6,6 @@ use Rattle.packed_write.proofs.packed.put_record.Goals as goal
 
 pub returns : goal.returns
 returns c =
-    let room = rw (← c.new-writer.ensures.same_bytes) at c.requires.1 in
-    let w = record_wrote c.args.numbers.fields c.args.table.now c.new-writer.ensures.start c.put_numbers.ensures c.put_table.ensures c.fill_byte.ensures room in
-    (search rules ∙ (rw (c.new-writer.ensures.same_bytes) at w.0), w.1)
+    let room = rw (← c.new-lent.ensures.same_bytes) at c.requires.1 in
+    let w = record_wrote c.args.numbers.fields c.args.table.now c.new-lent.ensures.start c.put_numbers.ensures c.put_table.ensures c.fill_byte.ensures room in
+    (search rules ∙ (rw (c.new-lent.ensures.same_bytes) at w.0), w.1)

@@ -1,10 +1,10 @@
--- `BitWriter::put` meets its contract: one part, or two.
+-- `LentBits::put` meets its contract: one part, or two.
 use Prim.Native.Nat.{◌-◌, ◌+◌}
 use mathlib.Core.Path.{◌≡◌}
 use lib.Pow.{shr_lt}
 use native.Mathlib.Omega.{arith}
 use Rattle.bit_fields.proofs.BitWriters.{put_in_two}
-use Rattle.bit_fields.proofs.BitWriter.put.Goals as goal
+use Rattle.bit_fields.proofs.LentBits.put.Goals as goal
 
 pub put_part-requires-2 : goal.put_part-requires-2
 put_part-requires-2 c =

@@ -3,10 +3,24 @@
 // `whole: ..` says that all of it is read and written, and no word at all is trouble too.
 #![tactic(auto)]
 
-use std::io::{self, Read, Stdout};
+ghost use Rattle.std.specs.Prelude.{◌≡◌, ◌≤◌, length, take, IfOk};
 
-// The longest accepted record has 11,296 bytes, and what is longer shows here.
-const MOST_BYTES: u64 = 65536;
+use std::io::{self, Read, Stdin, Stdout};
+
+// Reads until the room is full or the input ends, and answers how many bytes were read.
+fn read_input(mut stdin: Stdin, room: &mut [u8]) -> io::Result<usize>
+    ensures in_bounds { IfOk result (λ n. n ≤ length room.new) }
+    ensures len { IfOk result (λ n. n ≡ length (take n room.new)) }
+{
+    let mut n = 0;
+    while n < room.len() {
+        match stdin.read(&mut room[n..])? {
+            0 => break,
+            more => n += more,
+        }
+    }
+    Ok(n)
+}
 
 // Made by a call, so that the proof of what lends it does not write its bytes out. 2,000 lines of
 // at most 331 bytes.
@@ -36,9 +50,10 @@ fn list(record: &[u8], stdout: Stdout) -> &'static str {
 }
 
 fn main(rt: HostRuntime) {
+    // The longest accepted record has 11,296 bytes, and what is longer shows here.
     let mut input = [0; 65536];
-    let word = match io::copy(&mut rt.stdin().take(MOST_BYTES), &mut &mut input[..]) {
-        Ok(n) => list(input.get(..n as usize).unwrap_or(&input), rt.stdout()),
+    let word = match read_input(rt.stdin(), &mut input) {
+        Ok(n) => list(&input[..n], rt.stdout()),
         Err(_) => "trouble: the input cannot be read",
     };
     // Nobody is left to tell where the word cannot be written.

@@ -1,13 +1,13 @@
 -- An array of flows in a local: its first flows are lent as a slice, and the array is whole again.
 use mathlib.Core.Path.{◌≡◌, refl, sym, ◌∙◌, subst}
 use Prim.Native.Nat.{ℕ, ◌≤◌}
-use mathlib.Core.List.{List, [], ◌∷◌, ◌++◌}
+use mathlib.Core.List.{List, [], ◌∷◌, ◌++◌, map}
 use lib.ListN.{length, take, drop as drop-list, take-append-drop}
 use lib.Seq.{length_front}
 use seplogic.Ra.Ura.{Ura}
 use base.Fraction.{full_share}
 use package.mir.Syntax.{Ty, Lifetime, ty_array}
-use package.mir.Val.{Val}
+use package.mir.Val.{Val, vstruct, of_list}
 use base.Logic.{ent, sep, ex, guard}
 use base.Fml.{Lft, GName, Fml, fsep, fat, fdead, flent}
 use types.Logic.{Logic, sem}
@@ -20,16 +20,32 @@ use denote.Lend.{Held, lends_slice, slice_back}
 use denote.Ref.{MutBor}
 use denote.Slice.{Room, MutSlice, slice_val, finally}
 use denote.Memory.{cell_at, part_at, mem, shares, part_of}
-use denote.Array.{Array, array_vals, Array-Makes, Array-Lawful, Array-Tells}
+use denote.Array.{each, Array, array_vals, Array-Makes, Array-Lawful, Array-Tells}
 use denote.ArrayMemory.{Array-apart, Array-whole}
 use denote.Steps.{owned, peeks, only}
 use denote.Struct.Laws as LL
+use denote.Enum.Laws as EL
+use denote.Builtin.{usize}
+use denote.Struct.Field.{usize-field}
+use denote.Struct.Laws.{usize-laws, usize-copy}
+use denote.Param.Laws.{of_field, field_told, enum_told}
+use denote.Param.Shared.{copy_shared}
+use denote.Shadow.{shadow}
 use borrow.Rule.Slice.Shared.{parts-cells}
 use borrow.Table.Elements.{at, cut_app, join_app}
 use lib.Seq.{length-take-le}
+use Rattle.std.specs.Prelude.{Result}
+use Rattle.std.specs.contracts.result.Result as E
+use Rattle.std.proofs.result.Result.TheLaws as E'
+use Rattle.outcome.proofs.RecordWalks.{held}
+use Rattle.outcome.specs.declared.Refusal.{Refusal}
+use Rattle.outcome.specs.contracts.Refusal as R
+use Rattle.outcome.proofs.Refusal.TheLaws as R'
 use Rattle.cash_flow.specs.declared.flow.CashFlow.{CashFlow}
 use Rattle.cash_flow.specs.contracts.flow.CashFlow as T
 use Rattle.cash_flow.proofs.flow.CashFlow.TheLaws as T'
+use Rattle.replay.specs.declared.flows.Records.{Records}
+use Rattle.replay.specs.contracts.flows.Records as S
 
 -- the machine value of an array of flows, and its type
 abbrev pub flows-val : List CashFlow → Val
@@ -63,6 +79,30 @@ Shared b κ ys k = fsep (flent κ ((arr_parts (shares T.the_row) (length (take k
 -- and as `&mut`
 abbrev pub Taken : ℕ → Lft → List CashFlow → ℕ → GName → Fml
 Taken b κ ys k γ = fsep (flent κ (Held T.the_row (length (take k ys)) b 0 γ)) (cells (mem T.the_row) (drop-list k ys) b (behind ys k))
+
+-- the laws of an answer: a count, or a refusal
+abbrev answer-laws : EL.Laws (E.the_type usize R.the_row)
+answer-laws = E'.the_laws usize R.the_row (of_field usize-field usize-laws refl (copy_shared usize-field usize-copy)) R'.the_row_laws (field_told usize-field usize-laws) (enum_told R.the_type R'.the_laws)
+
+-- an answer's machine value
+abbrev pub answer : Result ℕ Refusal → Val
+answer a = EL.val (E.the_type usize R.the_row) answer-laws a
+
+-- an answer with its room is a record, which has the flows by their fields
+abbrev pub result : Result ℕ Refusal → List CashFlow → Records
+result r zs = record { answer = r; room = zs }
+
+abbrev pub result_val : Result ℕ Refusal → List CashFlow → Val
+result_val r zs = vstruct (of_list (answer r ∷ flows-val zs ∷ []))
+
+as_field : (zs : List CashFlow) (us : List Val) → shadow (each CashFlow (T.the_row).own_val zs us) → shadow (each (T.the_field).row.Denot (T.the_field).row.own_val (map (T.the_field).into zs) us)
+as_field [] [] s = s
+as_field [] (u ∷ us) s = s
+as_field (z ∷ zs) [] s = s
+as_field (z ∷ zs) (u ∷ us) s = (s.0, as_field zs us s.1)
+
+pub made : (r : Result ℕ Refusal) (zs : List CashFlow) (u : Val) → Is (E.the_row usize R.the_row) r (u ∷ []) → Flows 300 zs → Is S.the_row (result r zs) (result_val r zs ∷ [])
+made r zs u h g = ((answer r ∷ [], (flows-val zs ∷ [], tt)), (refl, (held (E.the_type usize R.the_row) answer-laws r u h, (g, tt))))
 
 module _ {M : Type 1} {𝓤 : Ura M} (𝓛 : Logic 𝓤) (n : ℕ) (b : ℕ) where
   -- such an array has its type

@@ -1,26 +1,72 @@
 // The answer to each verb.
 use crate::fields::Fields;
-use crate::line::{say, say_written};
+use crate::given::Given;
+use crate::line::{say, say_refused, say_written};
+use crate::lines::Lines;
 use crate::verb::Verb;
 use crate::{flows, notes};
 use calendar::Days;
 use outcome::Refusal;
-use std::io::{self, Stdout};
+use std::fmt;
 
-// The reader is told its refusal, which stands in the line by the record's number.
-fn read_decimal(s: &[u8], most: u32, number: u32, out: Stdout) -> io::Result<()> {
-    let told = match number {
-        6 => Refusal::CouponParseError,
-        _ => Refusal::InvalidPeriod,
-    };
-    let answer = number_text::read_decimal(s, most, told);
-    if answer == Err(told) {
-        return println!(out; "refused {number}");
+// The reader is told its refusal by the record's number.
+fn read_decimal(s: &[u8], most: u32, number: u32, out: &mut Lines) -> fmt::Result {
+    match number_text::read_decimal(s, most, number) {
+        Ok(n) => say(out, Ok(n)),
+        Err(k) => say_refused(out, k),
     }
-    say(out, answer)
 }
 
-pub(crate) fn answer(verb: Verb, mut f: Fields, out: Stdout) -> io::Result<()> {
+// What stands in front of a verb's table is passed over.
+fn table_behind(verb: Verb, mut f: Fields) -> Given<u32, 4200> {
+    match verb {
+        Verb::IsTable => (),
+        Verb::BdaysLater | Verb::BdaysEarlier => {
+            let _ = f.day();
+            let _ = f.word();
+        }
+        Verb::AdjustDate => {
+            let _ = f.adjustment();
+            let _ = f.date();
+        }
+        Verb::AddToWith | Verb::SubFromWith => {
+            let _ = f.period();
+            let _ = f.date();
+        }
+        _ => {
+            let _ = f.day();
+        }
+    }
+    f.table()
+}
+
+fn with_table(verb: Verb, mut f: Fields, table: &[u32], out: &mut Lines) -> fmt::Result {
+    match verb {
+        Verb::IsTable => say(out, Ok(business_days::is_table(table))),
+        Verb::IsBusinessDay => say(out, business_days::is_business_day(f.day(), table)),
+        Verb::NextBday => say(out, business_days::next_bday(f.day(), table)),
+        Verb::PrevBday => say(out, business_days::prev_bday(f.day(), table)),
+        Verb::BdaysLater => say(out, business_days::bdays_later(f.day(), f.word(), table)),
+        Verb::BdaysEarlier => say(out, business_days::bdays_earlier(f.day(), f.word(), table)),
+        Verb::AdjustDate => {
+            say(
+                out,
+                day_adjust::adjust_date(f.adjustment(), f.date(), table),
+            )
+        }
+        Verb::AddToWith => say(out, time_period::add_to_with(f.period(), f.date(), table)),
+        _ => say(out, time_period::sub_from_with(f.period(), f.date(), table)),
+    }
+}
+
+// What asks for a table of holidays, which is read once and is no local of the other answers.
+#[inline(never)]
+fn of_table(verb: Verb, f: Fields, out: &mut Lines) -> fmt::Result {
+    let table = table_behind(verb, f);
+    with_table(verb, f, table.as_slice(), out)
+}
+
+pub(crate) fn answer(verb: Verb, mut f: Fields, out: &mut Lines) -> fmt::Result {
     match verb {
         Verb::IsLeap => say(out, Ok(calendar::is_leap(f.word()))),
         Verb::LengthOfMonth => say(out, Ok(calendar::length_of_month(f.word(), f.word()))),
@@ -38,37 +84,15 @@ pub(crate) fn answer(verb: Verb, mut f: Fields, out: Stdout) -> io::Result<()> {
         Verb::AddYears => say(out, date_step::add_years(f.date(), f.signed())),
         Verb::AddDays => say(out, date_step::add_days(f.date(), f.signed_long())),
 
-        Verb::IsTable => say(out, Ok(business_days::is_table(f.table().as_slice()))),
-        Verb::IsBusinessDay => {
-            let d = f.day();
-            say(out, business_days::is_business_day(d, f.table().as_slice()))
-        }
-        Verb::NextBday => {
-            let d = f.day();
-            say(out, business_days::next_bday(d, f.table().as_slice()))
-        }
-        Verb::PrevBday => {
-            let d = f.day();
-            say(out, business_days::prev_bday(d, f.table().as_slice()))
-        }
-        Verb::BdaysLater => {
-            let d = f.day();
-            let k = f.word();
-            say(out, business_days::bdays_later(d, k, f.table().as_slice()))
-        }
-        Verb::BdaysEarlier => {
-            let d = f.day();
-            let k = f.word();
-            say(
-                out,
-                business_days::bdays_earlier(d, k, f.table().as_slice()),
-            )
-        }
-        Verb::AdjustDate => {
-            let rule = f.adjustment();
-            let t = f.date();
-            say(out, day_adjust::adjust_date(rule, t, f.table().as_slice()))
-        }
+        Verb::IsTable
+        | Verb::IsBusinessDay
+        | Verb::NextBday
+        | Verb::PrevBday
+        | Verb::BdaysLater
+        | Verb::BdaysEarlier
+        | Verb::AdjustDate
+        | Verb::AddToWith
+        | Verb::SubFromWith => of_table(verb, f, out),
 
         Verb::ReadPeriod => say(out, term_text::read_period(f.rest())),
         Verb::WritePeriod => {
@@ -80,16 +104,6 @@ pub(crate) fn answer(verb: Verb, mut f: Fields, out: Stdout) -> io::Result<()> {
         Verb::Inverse => say(out, time_period::inverse(f.period())),
         Verb::AddTo => say(out, time_period::add_to(f.period(), f.date())),
         Verb::SubFrom => say(out, time_period::sub_from(f.period(), f.date())),
-        Verb::AddToWith => {
-            let p = f.period();
-            let t = f.date();
-            say(out, time_period::add_to_with(p, t, f.table().as_slice()))
-        }
-        Verb::SubFromWith => {
-            let p = f.period();
-            let t = f.date();
-            say(out, time_period::sub_from_with(p, t, f.table().as_slice()))
-        }
         Verb::ReadCouponDate => say(out, term_text::read_coupon_date(f.rest())),
         Verb::NewCouponDate => say(out, coupon_date::new_coupon_date(f.word(), f.word())),
         Verb::WriteCouponDate => {

@@ -4,10 +4,11 @@ use crate::fields::Fields;
 use crate::given::Given;
 use crate::lent;
 use crate::line::{self, Answer, Bits, Letters};
+use crate::lines::Lines;
 use calendar::{Date, Day};
 use cash_flow::CashFlow;
 use outcome::Refusal;
-use std::io::{self, Stdout};
+use std::fmt::{self, Write};
 
 // The most flows that lists hold.
 const LISTED: usize = 100;
@@ -55,7 +56,7 @@ pub(crate) fn discount_plain_flows(mut f: Fields) -> Result<f64, Refusal> {
     )
 }
 
-pub(crate) fn flows_after_plain(mut f: Fields, out: Stdout) -> io::Result<()> {
+pub(crate) fn flows_after_plain(mut f: Fields, out: &mut Lines) -> fmt::Result {
     let day = Day(day_number(f.date()));
     let places = f.places().min(LISTED);
     let given = Lists::read(&mut f);
@@ -72,9 +73,9 @@ pub(crate) fn flows_after_plain(mut f: Fields, out: Stdout) -> io::Result<()> {
         &mut amounts[..places],
     );
     let n = answer.unwrap_or(0);
-    print!(out; "{}", Answer(answer))?;
+    write!(out, "{}", Answer(answer))?;
     for ((day, currency), amount) in days.iter().zip(&currencies).zip(&amounts).take(n) {
-        print!(out; " {day}:{currency}:{}", Bits(*amount))?;
+        write!(out, " {day}:{currency}:{}", Bits(*amount))?;
     }
     let is_kept = lent::is_kept(&days, n, lent::WORD)
         && lent::is_kept(&currencies, n, lent::WORD)
@@ -89,43 +90,56 @@ pub(crate) fn discount_cash_flow_stream(mut f: Fields) -> Result<f64, Refusal> {
     rates::discount_cash_flow_stream(rate, flows.as_slice(), today)
 }
 
-// Lends as many records as are asked for, of the room that there is, and writes what stands there
-// behind the answer.
-fn say_records<F: FnOnce(&mut [CashFlow]) -> Result<usize, Refusal>>(
-    out: Stdout,
+// What a call answers and leaves in its room.
+#[derive(Clone, Copy)]
+struct Records {
+    answer: Result<usize, Refusal>,
+    room: [CashFlow; RECORDS],
+}
+
+// Lends as many records as are asked for, of the room that there is.
+fn lend_records<F: FnOnce(&mut [CashFlow]) -> Result<usize, Refusal>>(
     places: usize,
     write: F,
-) -> io::Result<()>
+) -> Records
     requires { F.IsAlwaysCallable write }
 {
     let mut room = [lent::FLOW; RECORDS];
     let places = places.min(RECORDS);
     let answer = write(&mut room[..places]);
+    Records { answer, room }
+}
+
+// What stands in the room behind the answer.
+fn say_records(out: &mut Lines, records: Records) -> fmt::Result {
+    let Records { answer, room } = records;
     let n = answer.unwrap_or(0);
-    print!(out; "{}", Answer(answer))?;
+    write!(out, "{}", Answer(answer))?;
     for flow in room.iter().take(n) {
         let Date { year, month, day } = flow.date;
         let letters = Letters(flow.currency);
-        print!(out; " {year}-{month}-{day}:{letters}:{}", Bits(flow.amount))?;
+        write!(out, " {year}-{month}-{day}:{letters}:{}", Bits(flow.amount))?;
     }
     line::say_kept(out, lent::is_kept(&room, n, lent::FLOW))
 }
 
-pub(crate) fn get_cash_flows_after(mut f: Fields, out: Stdout) -> io::Result<()> {
+pub(crate) fn get_cash_flows_after(mut f: Fields, out: &mut Lines) -> fmt::Result {
     let date = f.date();
     let places = f.places();
     let flows: Given<CashFlow, RECORDS> = f.flows();
-    say_records(out, places, |room| {
+    let records = lend_records(places, |room| {
         fixed_income::get_cash_flows_after(flows.as_slice(), date, room)
-    })
+    });
+    say_records(out, records)
 }
 
-pub(crate) fn rollout_cash_flows(mut f: Fields, out: Stdout) -> io::Result<()> {
+pub(crate) fn rollout_cash_flows(mut f: Fields, out: &mut Lines) -> fmt::Result {
     let note = f.note();
     let position = f.float();
     let places = f.places();
     let table = f.table();
-    say_records(out, places, |room| {
+    let records = lend_records(places, |room| {
         rollout::rollout_cash_flows(note, position, table.as_slice(), room)
-    })
+    });
+    say_records(out, records)
 }

@@ -1,12 +1,12 @@
 // The line of an answer: `ok` and words, or `refused N`.
 use crate::lent;
+use crate::lines::Lines;
 use calendar::{Date, Day, Days};
 use cash_flow::Currency;
 use coupon_date::CouponDate;
 use day_count_conv::DayCountConv;
 use outcome::Refusal;
-use std::fmt::{self, Display, Formatter};
-use std::io::{self, Stdout};
+use std::fmt::{self, Display, Formatter, Write};
 use time_period::TimePeriod;
 
 // A value as words, a blank before each.
@@ -152,30 +152,38 @@ impl Display for Hex<'_> {
     }
 }
 
-pub(crate) fn say<T: Words>(out: Stdout, answer: Result<T, Refusal>) -> io::Result<()> {
-    println!(out; "{}", Answer(answer))
+pub(crate) fn say<T: Words>(out: &mut Lines, answer: Result<T, Refusal>) -> fmt::Result {
+    writeln!(out, "{}", Answer(answer))
+}
+
+pub(crate) fn say_refused(out: &mut Lines, number: u32) -> fmt::Result {
+    writeln!(out, "refused {number}")
 }
 
 // Whether lent memory that no answer fills is as it was.
-pub(crate) fn say_kept(out: Stdout, is_kept: bool) -> io::Result<()> {
-    println!(out; "{}", if is_kept { " kept" } else { " broken" })
+pub(crate) fn say_kept(out: &mut Lines, is_kept: bool) -> fmt::Result {
+    writeln!(out, "{}", if is_kept { " kept" } else { " broken" })
 }
 
 // What a text's writer answers and leaves in its room.
-pub(crate) fn say_text(out: Stdout, answer: Result<usize, Refusal>, room: &[u8]) -> io::Result<()> {
-    print!(out; "{}", Answer(answer))?;
+pub(crate) fn say_text(
+    out: &mut Lines,
+    answer: Result<usize, Refusal>,
+    room: &[u8],
+) -> fmt::Result {
+    write!(out, "{}", Answer(answer))?;
     if let Ok(n) = answer {
-        print!(out; " {}", Hex(room.get(..n).unwrap_or(room)))?;
+        write!(out, " {}", Hex(room.get(..n).unwrap_or(room)))?;
     }
     say_kept(out, lent::is_kept(room, answer.unwrap_or(0), lent::BYTE))
 }
 
 // Lends a writer as many bytes as are asked for, of the room that there is.
 pub(crate) fn say_written<F: FnOnce(&mut [u8]) -> Result<usize, Refusal>>(
-    out: Stdout,
+    out: &mut Lines,
     places: usize,
     write: F,
-) -> io::Result<()>
+) -> fmt::Result
     requires { F.IsAlwaysCallable write }
 {
     let mut room = [lent::BYTE; 512];

@@ -2,9 +2,9 @@
 use crate::fields::Fields;
 use crate::lent;
 use crate::line::{self, Answer, Bits, Letters, Words};
+use crate::lines::Lines;
 use packed_read::PackedNote;
-use std::fmt::{self, Formatter};
-use std::io::{self, Stdout};
+use std::fmt::{self, Formatter, Write};
 
 // The most flows that a rollout is lent places for.
 const FLOWS: usize = 4000;
@@ -12,7 +12,7 @@ const FLOWS: usize = 4000;
 // The most holidays that a packed note is lent places for.
 const HOLIDAYS: usize = 4200;
 
-pub(crate) fn rollout_flows(mut f: Fields, out: Stdout) -> io::Result<()> {
+pub(crate) fn rollout_flows(mut f: Fields, out: &mut Lines) -> fmt::Result {
     let note = f.note();
     let position = f.float();
     let places = f.places().min(FLOWS);
@@ -27,9 +27,9 @@ pub(crate) fn rollout_flows(mut f: Fields, out: Stdout) -> io::Result<()> {
         &mut amounts[..places],
     );
     let n = answer.unwrap_or(0);
-    print!(out; "{}", Answer(answer))?;
+    write!(out, "{}", Answer(answer))?;
     for (day, amount) in days.iter().zip(&amounts).take(n) {
-        print!(out; " {day}:{}", Bits(*amount))?;
+        write!(out, " {day}:{}", Bits(*amount))?;
     }
     let is_kept = lent::is_kept(&days, n, lent::WORD) && lent::is_kept(&amounts, n, lent::FLOAT);
     line::say_kept(out, is_kept)
@@ -52,19 +52,19 @@ impl Words for PackedNote {
     }
 }
 
-pub(crate) fn read_note(mut f: Fields, out: Stdout) -> io::Result<()> {
+pub(crate) fn read_note(mut f: Fields, out: &mut Lines) -> fmt::Result {
     let places = f.places().min(HOLIDAYS);
     let mut table = [lent::WORD; HOLIDAYS];
     let answer = packed_read::read_note(f.rest(), &mut table[..places]);
     let n = answer.map_or(0, |p| p.holidays);
-    print!(out; "{}", Answer(answer))?;
+    write!(out, "{}", Answer(answer))?;
     for day in table.iter().take(n) {
-        print!(out; " {day}")?;
+        write!(out, " {day}")?;
     }
     line::say_kept(out, lent::is_kept(&table, n, lent::WORD))
 }
 
-pub(crate) fn write_note(mut f: Fields, out: Stdout) -> io::Result<()> {
+pub(crate) fn write_note(mut f: Fields, out: &mut Lines) -> fmt::Result {
     let note = f.note();
     let places = f.places().min(16000);
     let table = f.table();
@@ -78,7 +78,7 @@ fn listing_room() -> [u8; 200000] {
     [lent::BYTE; 200000]
 }
 
-pub(crate) fn list_note(mut f: Fields, out: Stdout) -> io::Result<()> {
+pub(crate) fn list_note(mut f: Fields, out: &mut Lines) -> fmt::Result {
     let places = f.places().min(200000);
     let mut room = listing_room();
     let answer = note_listing::list_note(f.rest(), &mut room[..places]);

@@ -8,7 +8,7 @@ use native.Mathlib.Omega.{arith}
 use lib.Dec.{T}
 use lib.Ieee.{Float, nan, binary64, fits}
 use lib.Ieee.Scale.{finite}
-use lib.ListN.{length, drop, get_or, length-append, length-drop}
+use lib.ListN.{length, drop, get_or, length-append, length-drop, drop_of_length-le}
 use Rattle.outcome.proofs.Lists.{head_at}
 use Rattle.outcome.specs.Outcome.{Outcome, given, refused, and_then, passed_as}
 use Rattle.outcome.proofs.Outcomes.{given_injective, refused_injective, given_not_refused, passed_given, passed_refused}
@@ -51,16 +51,24 @@ line_takes_none f n e = rw (line_refused f n (passed_refused length (flow_shown 
 
 -- ---- lines one after the other
 
--- the next flow of two lists, of which as many pairs came as ys has
-pub flows-next : (c : Currency) (ds : List ℕ) (xs : List Float) (ys : List (Bor ℕ × Bor Float)) (p : Bor ℕ × Bor Float) → (length ys < length ds) × (length ys < length xs) × ((d : ℕ) → p.0.now ≡ get_or ds (length ys) d) × ((d : Float) → p.1.now ≡ get_or xs (length ys) d)
+-- the next flow of two lists
+pub flows-next : (c : Currency) (ds : List ℕ) (xs : List Float) (i : ℕ) → i < length ds → i < length xs → flows_shown c (drop i ds) (drop i xs) ≡ flow_on c (get_or ds i 0) (get_or xs i nan) ∷ flows_shown c (drop (i + 1) ds) (drop (i + 1) xs)
+flows-next c ds xs i h k =
+    rw (head_at ds i 0 h, head_at xs i nan k)
+
+pub flows-none : (c : Currency) (ds : List ℕ) (xs : List Float) (i : ℕ) → length ds ≤ i → flows_shown c (drop i ds) (drop i xs) ≡ []
+flows-none c ds xs i h = let e : drop i ds ≡ [] = drop_of_length-le ds h in rw (e)
+
+-- and where they are walked as pairs, of which as many came as ys has
+pub pairs-next : (c : Currency) (ds : List ℕ) (xs : List Float) (ys : List (Bor ℕ × Bor Float)) (p : Bor ℕ × Bor Float) → (length ys < length ds) × (length ys < length xs) × ((d : ℕ) → p.0.now ≡ get_or ds (length ys) d) × ((d : Float) → p.1.now ≡ get_or xs (length ys) d)
     → flows_shown c (drop (length ys) ds) (drop (length ys) xs) ≡ flow_on c p.0.now p.1.now ∷ flows_shown c (drop (length (ys ++ (p ∷ []))) ds) (drop (length (ys ++ (p ∷ []))) xs)
-flows-next c ds xs ys p (h, k, d, x) =
+pairs-next c ds xs ys p (h, k, d, x) =
     ap₂ (flows_shown c) (head_at ds (length ys) 0 h) (head_at xs (length ys) nan k)
     ∙ ap₂ (λ (a : ℕ) (b : Float). flow_on c a b ∷ flows_shown c (drop (length ys + 1) ds) (drop (length ys + 1) xs)) (sym (d 0)) (sym (x nan))
     ∙ ap (λ (j : ℕ). flow_on c p.0.now p.1.now ∷ flows_shown c (drop j ds) (drop j xs)) (sym (length-append ys (p ∷ [])))
 
-pub flows-none : (c : Currency) (ds : List ℕ) (xs : List Float) (i : ℕ) → i ≡ min (length ds) (length xs) → flows_shown c (drop i ds) (drop i xs) ≡ []
-flows-none c ds xs i q = by (drop i ds) (drop i xs) (omega (arith, q, length-drop i ds, length-drop i xs))
+pub pairs-none : (c : Currency) (ds : List ℕ) (xs : List Float) (i : ℕ) → i ≡ min (length ds) (length xs) → flows_shown c (drop i ds) (drop i xs) ≡ []
+pairs-none c ds xs i q = by (drop i ds) (drop i xs) (omega (arith, q, length-drop i ds, length-drop i xs))
   where
     by : (es : List ℕ) (ys : List Float) → min (length es) (length ys) ≡ 0 → flows_shown c es ys ≡ []
     by [] ys h = refl
@@ -184,7 +192,7 @@ refusal_is (given t) n e = absurd (given_not_refused (sym e))
 refusal_is (refused m) n e = ap refused_text (refused_injective e)
 
 -- the same text by another name
-written_is : (d e s t : List ℕ) (o : Outcome ℕ) → s ≡ t → (Written d e s o) × (length s ≤ 662000) → (Written d e t o) × (length t ≤ 662000)
+pub written_is : (d e s t : List ℕ) (o : Outcome ℕ) → s ≡ t → (Written d e s o) × (length s ≤ 662000) → (Written d e t o) × (length t ≤ 662000)
 written_is d e s t o p w = subst (λ (x : List ℕ). (Written d e x o) × (length x ≤ 662000)) p w
 
 -- and so is a refusal's, which is short

@@ -36,6 +36,7 @@ use Rattle.packed_read.proofs.packed.Reading.{bytes-given, few_days}
 use Rattle.note_listing.specs.lines.Lines.{lines_of}
 use Rattle.note_listing.specs.lines.Inner.{flow_on, flows_shown}
 use Rattle.note_listing.specs.note.Listing.{one, note_lines}
+use Rattle.note_listing.specs.note.Inner.{with_days}
 use Rattle.cash_flow.specs.flow.Flows.{date_on}
 
 -- ---- a flow is found again from its serial day and its amount
@@ -59,9 +60,6 @@ flows_back n (f ∷ l) h = rw (flow_back n f h.0, flows_back n l h.1)
 front : {A B : Type 0} (g : A → B) (l : List A) (old new : List B) (k : ℕ) → length l ≡ k → new ≡ map g l ++ drop (length l) old → (take k new ≡ map g l) × (k ≤ length new)
 front g l old new k e f =
     (rw (f, ← e) (front_taken g l (drop (length l) old)), omega (arith, ap length f, length-append (map g l) (drop (length l) old), length-map l g))
-
-abbrev with_days : Note → List ℕ → Unpacked
-with_days n table = record { note = n; days = table }
 
 pub record Rolled (n : Note) (table : List ℕ) (k : ℕ) (days : List ℕ) (amounts : List Float) : Type 0 where
   pub most : k ≤ 2000

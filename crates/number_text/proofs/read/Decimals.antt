@@ -32,6 +32,15 @@ pub digit_is : (b : ℕ) → is_ascii_digit b ≡ is_digit b
 unfolding is_digit
 digit_is b = elim (leb 48 b) as (λ l. (l && leb b 57) ≡ both l (leb b 57)) [ true ↦ refl | false ↦ refl ]
 
+pub digit_no : (b : ℕ) → (48 ≤ b → b ≤ 57 → ⊥) → is_digit b ≡ false
+unfolding is_digit
+digit_no b h = by (leb 48 b) (leb b 57) refl refl
+  where
+    by : (l m : Bool) → leb 48 b ≡ l → leb b 57 ≡ m → both l m ≡ false
+    by true true e f = absurd (h (leb-true 48 b e) (leb-true b 57 f))
+    by true false e f = refl
+    by false m e f = refl
+
 pub digit_bounds : (b : ℕ) → is_digit b ≡ true → (48 ≤ b) × (b ≤ 57)
 unfolding is_digit
 digit_bounds b e = between 48 b 57 e

@@ -1,6 +1,5 @@
 // The answer to each verb.
-use crate::fields::Fields;
-use crate::given::Given;
+use crate::fields::{Fields, TABLE};
 use crate::line::{say, say_refused, say_written};
 use crate::lines::Lines;
 use crate::verb::Verb;
@@ -18,7 +17,7 @@ fn read_decimal(s: &[u8], most: u32, number: u32, out: &mut Lines) -> fmt::Resul
 }
 
 // What stands in front of a verb's table is passed over.
-fn table_behind(verb: Verb, mut f: Fields) -> Given<u32, 4200> {
+fn from_table_on(verb: Verb, mut f: Fields) -> Fields {
     match verb {
         Verb::IsTable => (),
         Verb::BdaysLater | Verb::BdaysEarlier => {
@@ -37,7 +36,7 @@ fn table_behind(verb: Verb, mut f: Fields) -> Given<u32, 4200> {
             let _ = f.day();
         }
     }
-    f.table()
+    f
 }
 
 fn with_table(verb: Verb, mut f: Fields, table: &[u32], out: &mut Lines) -> fmt::Result {
@@ -62,8 +61,9 @@ fn with_table(verb: Verb, mut f: Fields, table: &[u32], out: &mut Lines) -> fmt:
 // What asks for a table of holidays, which is read once and is no local of the other answers.
 #[inline(never)]
 fn of_table(verb: Verb, f: Fields, out: &mut Lines) -> fmt::Result {
-    let table = table_behind(verb, f);
-    with_table(verb, f, table.as_slice(), out)
+    let mut places = [0; TABLE];
+    let table = from_table_on(verb, f).table(&mut places);
+    with_table(verb, f, table, out)
 }
 
 pub(crate) fn answer(verb: Verb, mut f: Fields, out: &mut Lines) -> fmt::Result {

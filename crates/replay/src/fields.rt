@@ -35,6 +35,9 @@ const ADJUSTMENTS: [DayAdjust; 4] = [
     DayAdjust::Modified,
 ];
 
+// The most days that a table is read to.
+pub(crate) const TABLE: usize = 4200;
+
 #[derive(Clone, Copy)]
 pub(crate) struct Fields<'a> {
     rest: &'a [u8],
@@ -193,10 +196,13 @@ impl<'a> Fields<'a> {
         }
     }
 
-    // The days behind their count.
-    pub(crate) fn table(&mut self) -> Given<u32, 4200> {
+    // The days behind their count, in lent places.
+    pub(crate) fn table<'b>(&mut self, places: &'b mut [u32; TABLE]) -> &'b [u32] {
         let n = self.count();
-        Given::new(n, 0, || self.word())
+        for place in places.iter_mut().take(n) {
+            *place = self.word();
+        }
+        places.get(..n).unwrap_or(places)
     }
 
     // The flows behind their count.

@@ -1,6 +1,6 @@
 // Flows as lists, where a flow is what stands at one place of each of the three, and flows as
 // records.
-use crate::fields::Fields;
+use crate::fields::{Fields, TABLE};
 use crate::given::Given;
 use crate::lent;
 use crate::line::{self, Answer, Bits, Letters};
@@ -137,9 +137,10 @@ pub(crate) fn rollout_cash_flows(mut f: Fields, out: &mut Lines) -> fmt::Result 
     let note = f.note();
     let position = f.float();
     let places = f.places();
-    let table = f.table();
+    let mut table_places = [0; TABLE];
+    let table = f.table(&mut table_places);
     let records = lend_records(places, |room| {
-        rollout::rollout_cash_flows(note, position, table.as_slice(), room)
+        rollout::rollout_cash_flows(note, position, table, room)
     });
     say_records(out, records)
 }

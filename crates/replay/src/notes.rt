@@ -1,5 +1,5 @@
 // Notes, their flows in lists and their packed form.
-use crate::fields::Fields;
+use crate::fields::{Fields, TABLE};
 use crate::lent;
 use crate::line::{self, Answer, Bits, Letters, Words};
 use crate::lines::Lines;
@@ -16,13 +16,14 @@ pub(crate) fn rollout_flows(mut f: Fields, out: &mut Lines) -> fmt::Result {
     let note = f.note();
     let position = f.float();
     let places = f.places().min(FLOWS);
-    let table = f.table();
+    let mut table_places = [0; TABLE];
+    let table = f.table(&mut table_places);
     let mut days = [lent::WORD; FLOWS];
     let mut amounts = [lent::FLOAT; FLOWS];
     let answer = rollout::rollout_flows(
         note,
         position,
-        table.as_slice(),
+        table,
         &mut days[..places],
         &mut amounts[..places],
     );
@@ -67,9 +68,10 @@ pub(crate) fn read_note(mut f: Fields, out: &mut Lines) -> fmt::Result {
 pub(crate) fn write_note(mut f: Fields, out: &mut Lines) -> fmt::Result {
     let note = f.note();
     let places = f.places().min(16000);
-    let table = f.table();
+    let mut table_places = [0; TABLE];
+    let table = f.table(&mut table_places);
     let mut room = [lent::BYTE; 16000];
-    let answer = packed_write::write_note(note, table.as_slice(), &mut room[..places]);
+    let answer = packed_write::write_note(note, table, &mut room[..places]);
     line::say_text(out, answer, &room)
 }
 

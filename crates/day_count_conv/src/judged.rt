@@ -7,7 +7,7 @@ ghost use Rattle.icma.specs.parts.Walk.{step};
 ghost use Rattle.day_count_conv.specs.conventions.Conventions.{fractions_in_f64, rolled_from, by_rule, roll_dated};
 
 use crate::conventions::{
-    DayCountConv, NoteTerms, act_act_icma, rolled_from, unless_zero, whole_period,
+    DayCountConv, NoteTerms, act_act_icma, no_terms, unless_zero, whole_period,
 };
 use calendar::Date;
 use day_fraction::{
@@ -66,5 +66,13 @@ pub fn fraction_of_period(
     if let DayCountConv::ActActICMA = convention {
         return whole_period(p);
     }
-    fraction_judged(convention, from, to, rolled_from(from, p))
+    // No other rule looks at the terms: with none, the dates stay in registers.
+    by_rule(
+        convention,
+        DateSpan {
+            start: from,
+            end: to,
+        },
+        no_terms(),
+    )
 }

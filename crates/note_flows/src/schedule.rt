@@ -52,9 +52,21 @@ pub(crate) fn owed(note: Note, position: f64, due: Due) -> Result<Option<Payment
         }
         // A later one rolls from its start, and is one period long.
         Due::After(start) if calendar::is_before(start, note.maturity) => {
-            let end = time_period::step(note.period, start)?;
-            let fraction = day_count_conv::fraction_of_period(rule, note.period, start, end)?;
-            Ok(Some(coupon(note, position, end, fraction)))
+            // Part by part, as `step` wrote it: a date read as a whole makes the processor wait, and
+            // a `?` reads it so.
+            match time_period::step(note.period, start) {
+                Ok(Date { year, month, day }) => {
+                    let end = Date { year, month, day };
+                    let fraction = day_count_conv::fraction_of_period(
+                        rule,
+                        note.period,
+                        start,
+                        end,
+                    )?;
+                    Ok(Some(coupon(note, position, end, fraction)))
+                }
+                Err(refusal) => Err(refusal),
+            }
         }
         // The nominal comes behind the last.
         Due::After(_) => Ok(Some(Payment {

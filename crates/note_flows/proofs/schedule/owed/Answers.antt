@@ -1,6 +1,6 @@
 -- `note_flows::owed` meets its contract: a coupon's dates are in order, and the date it rolls from
 -- exists.
-use mathlib.Core.Path.{sym}
+use mathlib.Core.Path.{sym, refl}
 use Rattle.day_count_conv.proofs.conventions.Judged.{roll_dated_lem}
 use Rattle.note_flows.proofs.schedule.Spans.{accepted_note, first_span, next_span}
 use Rattle.note_flows.proofs.schedule.owed.Goals as goal
@@ -12,5 +12,8 @@ fraction_judged-requires c =
 
 pub fraction_of_period-requires : goal.fraction_of_period-requires
 fraction_of_period-requires c =
-    let e = sym c.in_ok-end-in-After.ensures in
-    (next_span c.args.note (accepted_note c.args.note c.requires.accepted) c.in-After.start c.in_ok-end-in-After.end (rw c.in-After.is at c.requires.dated) e, e)
+    let e = sym c.in-Ok.ensures in
+    (next_span c.args.note (accepted_note c.args.note c.requires.accepted) c.in-After.start c.in-Ok.field-0 (rw c.in-After.is at c.requires.dated) e, e)
+
+pub returns-in_ok-fraction-in-Ok : goal.returns-in_ok-fraction-in-Ok
+returns-in_ok-fraction-in-Ok c = rw (c.in-After.is, ← c.is_before.ensures, c.if-is_before.true, ← c.in-Ok.ensures, ← c.in_ok-fraction-in-Ok.ensures, c.coupon-in-Ok.ensures) refl
